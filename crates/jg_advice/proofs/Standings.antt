@@ -35,8 +35,8 @@ module _ (old : AdviserState) (h : List Moment) (p : Parts) (n : ℕ) (s : State
     (stands : Stands old h) where
   pub call_stands : (new : AdviserState)
       → ((q : Name) → kept new.doings q
-          ≡ (if same_name (t.0, depth p t.0) q then doing_after (Some row) (may_throw s p t.0 (Some row) xs) (source n t f) (kept old.doings q)
-          else kept old.doings q))
+      ≡ (if same_name (t.0, depth p t.0) q then doing_after (Some row) (may_throw s p t.0 (Some row) xs) (source n t f) (kept old.doings q)
+      else kept old.doings q))
       → ((q : Name) → found new.written q ≡ (if commits q (released_by (Some row) xs) then None
       else (if is_named q (written_by (Some row) xs) && is_copy p (written_by (Some row) xs) then Some (source n t f) else found old.written q)))
       → ((q : Name) → found new.committed q ≡ (if commits q (released_by (Some row) xs) then Some (source n t f) else found old.committed q))
@@ -48,15 +48,15 @@ module _ (old : AdviserState) (h : List Moment) (p : Parts) (n : ℕ) (s : State
   call_stands new doings writes commitments once entries regions calls collections = record {
     doings = λ q. doings q
         ∙ ap (λ o. if same_name (t.0, depth p t.0) q then doing_after o (may_throw s p t.0 o xs) (source n t f) (kept old.doings q) else kept old.doings q)
-            (sym is)
+        (sym is)
         ∙ ap (λ d. if same_name (t.0, depth p t.0) q then doing_after (slice_get functions f) (may_throw s p t.0 (slice_get functions f) xs) (source n t f) d
-            else d) (stands.doings q);
+        else d) (stands.doings q);
     written = λ q. writes q
         ∙ ap (λ o. if commits q (released_by o xs) then None
-            else (if is_named q (written_by o xs) && is_copy p (written_by o xs) then Some (source n t f) else found old.written q)) (sym is)
+        else (if is_named q (written_by o xs) && is_copy p (written_by o xs) then Some (source n t f) else found old.written q)) (sym is)
         ∙ ap (λ s. if commits q (released_by (slice_get functions f) xs) then None
         else (if is_named q (written_by (slice_get functions f) xs) && is_copy p (written_by (slice_get functions f) xs) then Some (source n t f) else s))
-            (stands.written q);
+        (stands.written q);
     committed = λ q. commitments q
         ∙ ap (λ o. if commits q (released_by o xs) then Some (source n t f) else found old.committed q) (sym is)
         ∙ ap (λ s. if commits q (released_by (slice_get functions f) xs) then Some (source n t f) else s) (stands.committed q);
@@ -83,7 +83,7 @@ module _ (old : AdviserState) (h : List Moment) (p : Parts) (n : ℕ) (s : State
       ∙ ap (λ l. o0 ++ l) (append_assoc (option_to_list a) (option_to_list b) (option_to_list c))
       ∙ ap (λ a. o0 ++ (option_to_list a ++ (option_to_list b ++ option_to_list c)))
       (first ∙ ap (λ o. unchecked n t f o (kept old.doings (t.0, depth p t.0))) (sym is)
-          ∙ ap (unchecked n t f (slice_get functions f)) (stands.doings (t.0, depth p t.0)))
+      ∙ ap (unchecked n t f (slice_get functions f)) (stands.doings (t.0, depth p t.0)))
       ∙ ap (λ b. o0 ++ (option_to_list (unchecked n t f (slice_get functions f) (doing_now t.0 p h)) ++ (option_to_list b ++ option_to_list c)))
       (second ∙ ap (λ o. lost n t f (found old.written) (released_by o xs)) (sym is) ∙ ap (λ w. lost n t f w (released_by (slice_get functions f) xs)) writes)
       ∙ ap (λ c. o0 ++ (option_to_list (unchecked n t f (slice_get functions f) (doing_now t.0 p h))
@@ -100,8 +100,8 @@ module _ (old : AdviserState) (h : List Moment) (p : Parts) (n : ℕ) (x : Fact)
 
   pub fact_stands : (new : AdviserState)
       → ((u : ℕ) → at u new.regions
-          ≡ region_by u p (λ t. record { source = cause_by (kept old.doings) p n t; calls = old.calls; collections = old.collections }) (bordered x)
-          (at u old.regions))
+      ≡ region_by u p (λ t. record { source = cause_by (kept old.doings) p n t; calls = old.calls; collections = old.collections }) (bordered x)
+      (at u old.regions))
       → ((q : Name) → found new.entered q ≡ entered_by q p (cause_by (kept old.doings) p n) x (found old.entered q))
       → ((q : Name) → found new.written q ≡ (if is_given_back q x then None else found old.written q))
       → ((q : Name) → found new.committed q ≡ (if is_settled q x then None else found old.committed q))
@@ -119,7 +119,7 @@ module _ (old : AdviserState) (h : List Moment) (p : Parts) (n : ℕ) (x : Fact)
         ∙ ap (λ d. entered_by q p (cause_by d p n) x (entered q h)) done;
     regions = λ u. regions u
         ∙ ap (region_by u p (λ t. record { source = cause_by (kept old.doings) p n t; calls = old.calls; collections = old.collections }) (bordered x))
-            (stands.regions u)
+        (stands.regions u)
         ∙ ap (λ d. region_by u p (λ t. record { source = cause_by d p n t; calls = old.calls; collections = old.collections }) (bordered x) (region u h)) done
         ∙ ap (λ k. region_by u p (λ t. record { source = cause t m h; calls = k; collections = old.collections }) (bordered x) (region u h)) stands.calls
         ∙ ap (λ k. region_by u p (λ t. record { source = cause t m h; calls = calls_in h; collections = k }) (bordered x) (region u h)) stands.collections;
@@ -150,8 +150,13 @@ module _ (old : AdviserState) (h : List Moment) (p : Parts) (n : ℕ) (x : Fact)
       ∙ ap (λ k. option_to_list (long old.most n p (λ t. region t h) (calls_in h) k (bordered x))) stands.collections in
       let grown_is : d ≡ d' = ap (λ f. option_to_list (grown n p (cause_by f p n) (handed x))) done in (
         a ++ (b' ++ (c ++ d')),
-        (buffers, monitors, subst (λ f. AreEnded f (ended x) buffers) commitments kept_now, subst (λ f. AreEnded f (ended x) monitors) entries owned_now,
-            refl_of (a ++ (b' ++ (c ++ d')))),
+        (
+          buffers,
+          monitors,
+          subst (λ f. AreEnded f (ended x) buffers) commitments kept_now,
+          subst (λ f. AreEnded f (ended x) monitors) entries owned_now,
+          refl_of (a ++ (b' ++ (c ++ d'))),
+        ),
         is4 ∙ ap (λ l. l ++ d) (is3 ∙ ap (λ l. l ++ c) (is2 ∙ ap (λ l. l ++ b) is1))
             ∙ all_in_one o0 a b c d
             ∙ ap (λ b. o0 ++ (a ++ (b ++ (c ++ d)))) long_is

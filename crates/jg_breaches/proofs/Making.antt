@@ -262,7 +262,7 @@ module _ (s : StatedSetup) (p : Parts) (u : Tid) (call : Call) (reply : Reply) (
         let acts = if_effective (is_effective reply.value) (call_locals s p u.0 call) in
         let silent = none_if (is_effective reply.value) (call_locals s p u.0 call) (call_makes_none s p u.0 call) in
         let mid : live n (acts_of t called) ≡ None =
-            none_still (live n (acts_of t called)) (live n (acts_of t p.locals)) (λ k is. still t u.0 n k acts p.locals silent is) none in
+        none_still (live n (acts_of t called)) (live n (acts_of t p.locals)) (λ k is. still t u.0 n k acts p.locals silent is) none in
         let made = by_value t u.0 n o reply.value object called mid some in
         let is : reply.value ≡ Reference (To Local made.1.0 n) = made.1.1 in
         let theirs : made.1.0 ≡ u = own_maker made.1.0 n object (subst (λ v. IsProper s p u call v reply.warned object) is own) in
@@ -286,7 +286,7 @@ module _ (s : StatedSetup) (p : Parts) (u : Tid) (call : Call) (reply : Reply) (
         let silent = no_global_if (is_effective reply.value) (call_globals s p u.0 call) (makes_none s p u.0 call) in
         let old = strong_none (globals.strong p.globals maker.0 n) none in
         let mid = none_still (globals.strong (e ++ p.globals) maker.0 n) (globals.strong p.globals maker.0 n)
-            (λ o is. strong_quiet maker.0 n o e p.globals silent is) old in
+        (λ o is. strong_quiet maker.0 n o e p.globals silent is) old in
         let now = strong_some (globals.strong (value_globals reply.value object ++ (e ++ p.globals)) maker.0 n) some in
         let made = strong_by maker.0 n now.0 reply.value object (e ++ p.globals) mid now.1 in
         ap reference_in made.1.1.1.1 ∙ ap (λ m. Some (To Global m made.1.0)) (tid_is made.0 maker made.1.1.0) ∙ ap (λ k. Some (To Global maker k)) made.1.1.1.0
@@ -296,7 +296,7 @@ module _ (s : StatedSetup) (p : Parts) (u : Tid) (call : Call) (reply : Reply) (
         let all = value_globals reply.value object ++ (e ++ p.globals) in
         let old = weak_none (globals.after_making maker.0 n p.globals) (globals.weak p.globals maker.0 n) none in
         let mid = none_still (globals.weak (e ++ p.globals) maker.0 n) (globals.weak p.globals maker.0 n) (λ o is. weak_quiet maker.0 n o e p.globals silent is)
-            old in
+        old in
         let now = weak_some (globals.after_making maker.0 n all) (globals.weak all maker.0 n) some in
         let made = weak_by maker.0 n now.0 reply.value object (e ++ p.globals) mid now.1 in
         ap reference_in made.1.1.1.1 ∙ ap (λ m. Some (To Weak m made.1.0)) (tid_is made.0 maker made.1.1.0) ∙ ap (λ k. Some (To Weak maker k)) made.1.1.1.0
@@ -362,7 +362,7 @@ never_again : (s : StatedSetup) (newest h : List Entry) (t : Tid) (r : Ref) → 
 never_again s [] h t r legal was ended = ended
 never_again s (x ∷ newest) h t r legal was ended =
     not_again s (newest ++ h) x t r (holds (parts s (x ∷ newest ++ h)) (Names t r)) legal (handed_later r newest h was)
-        (never_again s newest h t r legal.1 was ended) refl
+    (never_again s newest h t r legal.1 was ended) refl
 
 names_null : (p : Parts) (t : Tid) (r : Ref) → r ≡ Null → holds p (Names t r) ≡ true
 names_null p t r null = ap (λ q. holds p (Names t q)) null

@@ -101,7 +101,7 @@ is_meant s p t call rule row found xs given here there xs_are given_is =
     given_is
     ∙ (ap (λ (takes : List Takes). find (breaks s p t rule) (referred takes xs)) takes_are
     ∙ (ap (λ (x : List Argument). find (breaks s p t rule) (referred (takes_of (fun_of call)) x)) xs_are
-        ∙ ap (find (breaks s p t rule)) (are_referred s p t call)))
+    ∙ ap (find (breaks s p t rule)) (are_referred s p t call)))
 
 -- ---- the first operand of several
 

@@ -53,7 +53,7 @@ pub answered : (bounds : Bounds) (s : StatedSetup) (p : Parts) (t : Tid) (env : 
 answered bounds s p t env function row xs out is_row is =
     ap (answer_by bounds s p t env row xs) is
     ∙ (answer_if bounds s p t env row xs (suits row.takes xs) (names p t.0 (first_reference xs)) (verdict bounds s p t.0 env row xs)
-        ∙ sym (ap (by_row bounds s p t env xs) is_row))
+    ∙ sym (ap (by_row bounds s p t env xs) is_row))
 
 abbrev named_by : Named → Verdict → Named
 named_by named Misfit = named
@@ -75,4 +75,4 @@ pub viewed : {A I : Type 0} (core : CoreState) (view : View A Rows I) (w : List 
     → CoreStands core w → ViewTells Tells view (parts_of w)
 viewed core view w setup_is rows_is stands =
     subst (λ s. StandBeside Tells s (rows_in view) (parts_of w)) (sym setup_is)
-        (subst (λ (r : RowsBeside Rows). StandBeside Tells core.setup r (parts_of w)) (sym rows_is) stands.tables)
+    (subst (λ (r : RowsBeside Rows). StandBeside Tells core.setup r (parts_of w)) (sym rows_is) stands.tables)

@@ -154,8 +154,12 @@ may_lend s p t family o via n is =
 pub can_own : (s : StatedSetup) (p : Parts) (rows : monitor_rows.Rows) (o : ℕ) → IsOrdinary s p → monitor_standing.Stands rows p.monitors
     → monitor_rows.count_in (monitor_rows.row_of o rows) < 18446744073709551615
 can_own s p rows o ordinary stands =
-    omega (arith, (rows_tell_law rows p.monitors o stands).count, owned_most p.monitors o (2 ^ 60) (monitors.owner p.monitors o)
-        (λ t. ordinary.few.monitors t o))
+    omega (
+      arith,
+      (rows_tell_law rows p.monitors o stands).count,
+      owned_most p.monitors o (2 ^ 60) (monitors.owner p.monitors o)
+          (λ t. ordinary.few.monitors t o),
+    )
 
 pub may_free : (p : Parts) (rows : monitor_rows.Rows) (t o : ℕ) → monitor_standing.Stands rows p.monitors → is_owner t (monitors.owner p.monitors o) ≡ true
     → monitor_rows.owner_in (monitor_rows.row_of o rows) ≡ Some t

@@ -62,7 +62,7 @@ module _ (P : Parts → Type 0) (s : StatedSetup) (keeps : Keeps s P) where
         threads = threads.by t threads.CountBuffer ∷ p.threads;
         buffers = buffers.Opened
             (if c then buffers.pin_through t (next_buffer p t) o family via n else buffers.copy_with t (next_buffer p t) o family (replicate n (pos 0)))
-                ∷ p.buffers;
+            ∷ p.buffers;
       })
   lending p t true o family via n old = keeps.lends p t (buffers.pin_through t (next_buffer p t) o family via n) refl refl old
   lending p t false o family via n old = keeps.lends p t (buffers.copy_with t (next_buffer p t) o family (replicate n (pos 0))) refl refl old
@@ -73,17 +73,17 @@ module _ (P : Parts → Type 0) (s : StatedSetup) (keeps : Keeps s P) where
       let q : Parts = record p { threads = threads.by t.0 threads.Detach ∷ p.threads; locals = locals.by t.0 locals.End ∷ p.locals } in
       let r : Parts = record q { monitors = monitors.by t.0 monitors.ReleaseAll ∷ p.monitors } in
       keeps.steps.to_buffers r (buffers.ReleaseAll t.0 ∷ []) refl
-          (keeps.steps.to_monitors q (monitors.by t.0 monitors.ReleaseAll ∷ []) (keeps.steps.ends p t.0 old))
+      (keeps.steps.to_monitors q (monitors.by t.0 monitors.ReleaseAll ∷ []) (keeps.steps.ends p t.0 old))
   each_fact p (Enter t) can old =
       let q : Parts = record p { threads = threads.by t.0 threads.Enter ∷ p.threads; locals = locals.by t.0 locals.Enter ∷ p.locals } in
       keeps.steps.calms q t.0 (keeps.steps.enters p t.0 can old)
   each_fact p (Leave t kept) can old =
       let q : Parts = record p { threads = threads.by t.0 threads.Leave ∷ p.threads; locals = locals.by t.0 locals.Leave ∷ p.locals } in
       let deep = and_first (not (depth p t.0 == 0)) (is_kept_here s p kept)
-          (and_second (is_attached p t.0) (not (depth p t.0 == 0) && is_kept_here s p kept) can) in
+      (and_second (is_attached p t.0) (not (depth p t.0 == 0) && is_kept_here s p kept) can) in
       keeping (record q { threads = threads.by t.0 threads.Calm ∷ q.threads }) t.0 kept
       (keeps.steps.calms q t.0 (keeps.steps.leaves p t.0 (and_first (is_attached p t.0) (not (depth p t.0 == 0) && is_kept_here s p kept) can)
-          (not-true (depth p t.0 == 0) deep) old))
+      (not-true (depth p t.0 == 0) deep) old))
   each_fact p (Push t room) can old = keeps.steps.pushes p t.0 room old
   each_fact p (Pop t kept) can old =
       keeping (record p { locals = locals.by t.0 locals.Pop ∷ p.locals }) t.0 kept

@@ -72,8 +72,13 @@ kept_few k n t (Some o) p few = handed_few k n t Local o.0 p few
 lost_few : (k n : ℕ) (r : Ref) (p : Parts) → AreFew k n p → AreFew k n (lost_on r p)
 lost_few k n Null p few = few
 lost_few k n (To Local maker i) p few =
-    record { threads = few.threads; locals = none_more locals.is_push n maker.0 (locals.Delete i) p.locals refl few.locals; monitors = few.monitors; heap =
-        few.heap }
+    record {
+      threads = few.threads;
+      locals = none_more locals.is_push n maker.0 (locals.Delete i) p.locals refl few.locals;
+      monitors = few.monitors;
+      heap =
+          few.heap;
+    }
 lost_few k n (To Global maker i) p few = record { threads = few.threads; locals = few.locals; monitors = few.monitors; heap = few.heap }
 lost_few k n (To Weak maker i) p few = record { threads = few.threads; locals = few.locals; monitors = few.monitors; heap = few.heap }
 
@@ -118,11 +123,21 @@ few_on k n (Pop t kept) p few = kept_few k n t.0 kept _ (record {
   heap = few.heap;
 })
 few_on k n (Ensure t room) p few =
-    record { threads = few.threads; locals = none_more locals.is_push n t.0 (locals.Ensure room) p.locals refl few.locals; monitors = few.monitors; heap =
-        few.heap }
+    record {
+      threads = few.threads;
+      locals = none_more locals.is_push n t.0 (locals.Ensure room) p.locals refl few.locals;
+      monitors = few.monitors;
+      heap =
+          few.heap;
+    }
 few_on k n (Raise t o) p few =
-    record { threads = none_more raises_count n t.0 (threads.Raise o.0) p.threads refl few.threads; locals = few.locals; monitors = few.monitors; heap =
-        few.heap }
+    record {
+      threads = none_more raises_count n t.0 (threads.Raise o.0) p.threads refl few.threads;
+      locals = few.locals;
+      monitors = few.monitors;
+      heap =
+          few.heap;
+    }
 few_on k n (Calm t) p few =
     record { threads = none_more raises_count n t.0 threads.Calm p.threads refl few.threads; locals = few.locals; monitors = few.monitors; heap = few.heap }
 few_on k n (Hand t kind o) p few = handed_few k n t.0 kind o.0 p few

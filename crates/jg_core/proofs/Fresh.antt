@@ -48,8 +48,11 @@ is_next w (Hand t kind o) r is = record {
 }
 is_next w (Leave t (Some o)) r is =
     let p : Parts = parts_of w in
-    let q : Parts = record p { threads = threads.by t.0 threads.Calm ∷ threads.by t.0 threads.Leave ∷ p.threads; locals =
-        locals.by t.0 locals.Leave ∷ p.locals } in
+    let q : Parts = record p {
+      threads = threads.by t.0 threads.Calm ∷ threads.by t.0 threads.Leave ∷ p.threads;
+      locals =
+          locals.by t.0 locals.Leave ∷ p.locals;
+    } in
     record {
       t = t;
       kind = Local;
@@ -120,5 +123,5 @@ no_reference_revived s newest later first t o (To Global maker n) could was is =
 no_reference_revived s newest later first t o (To Weak maker n) could was is = global_gone Weak s newest later first maker.0 n o could was is
 no_reference_revived s newest later first t o (To Local maker n) could was is =
     own_gone (maker.0 == t) o (live n (acts_of t (parts_of first).locals)) (live n (acts_of t (parts_of (later ++ first)).locals))
-        (live n (acts_of t (parts_of (newest ++ (later ++ first))).locals))
+    (live n (acts_of t (parts_of (newest ++ (later ++ first))).locals))
     (local_gone s newest later first t n o could) was is

@@ -49,7 +49,7 @@ unfit_same m m' [] same = refl
 unfit_same m m' (o ∷ objects) same =
     ap (λ b. if b then option_map (λ n. n + 1) (first_unfit (with_set m o.0) objects) else Some 0) (ap is_unset (same o.0))
     ∙ ap (λ r. if is_unset (m' o.0) then option_map (λ n. n + 1) r else Some 0)
-        (unfit_same (with_set m o.0) (with_set m' o.0) objects (λ q. set_same (o.0 == q) (m q) (m' q) (same q)))
+    (unfit_same (with_set m o.0) (with_set m' o.0) objects (λ q. set_same (o.0 == q) (m q) (m' q) (same q)))
 
 shifted : (i : ℕ) (r : Option ℕ) → option_map (λ n. n + i) (option_map (λ n. n + 1) r) ≡ option_map (λ n. n + (i + 1)) r
 shifted i None = refl
@@ -142,7 +142,7 @@ gone_once s p o can =
     let gone : is_here s (on (Gone o) p) o.0 ≡ false =
     ap (λ b. nat_lt o.0 (heap.count_of k p.heap) && not (heap.gone_at k p.heap o.0 || (b && (nat_lt o.0 (heap.count_of k p.heap) && not (nat_lt o.0 k))))) same
     ∙ gone_then (nat_lt o.0 (heap.count_of k p.heap)) (heap.gone_at k p.heap o.0) (nat_lt o.0 k)
-        (first_two (is_here s p o.0) (not (nat_lt o.0 k)) (not (is_root p o.0)) can) in
+    (first_two (is_here s p o.0) (not (nat_lt o.0 k)) (not (is_root p o.0)) can) in
     never_twice true (nat_lt o.0 k) (is_root (on (Gone o) p) o.0) (is_here s (on (Gone o) p) o.0) gone
 
 -- ---- what is unfit is what is held

@@ -291,7 +291,7 @@ gone_here k p o none all =
           stays k p.heap o x.0 (all.weak m n x both.1) (not_first o x.0 false both.0);
       pins = λ m n b is critical. stays k p.heap o b.object (all.pins m n b is critical)
           (apart p o b.object none (by_pin p b.object
-              ((pinned_object_law p.buffers b.object).1 (record { maker = m; n = n; buffer = b; is_open = is; critical = critical; holds = refl }))));
+          ((pinned_object_law p.buffers b.object).1 (record { maker = m; n = n; buffer = b; is_open = is; critical = critical; holds = refl }))));
       owned = λ t x some. stays k p.heap o x (all.owned t x some) (apart p o x none (by_monitor p x ((held_law p.monitors x).1 (t, some))));
     }
 
@@ -300,7 +300,7 @@ gone_here k p o none all =
 lent_pin : (c : Bool) (k : ℕ) (p : Parts) (t n o : ℕ) (family : Family) (via : Ref) (length : ℕ) → buffers.is_critical family ≡ c → Here k p.heap o
     → HeldHere k p
     → PinsMeet (Here k p.heap)
-        (buffers.Opened (if c then buffers.pin_through t n o family via length else buffers.copy_with t n o family (replicate length (pos 0))) ∷ p.buffers)
+    (buffers.Opened (if c then buffers.pin_through t n o family via length else buffers.copy_with t n o family (replicate length (pos 0))) ∷ p.buffers)
 lent_pin true k p t n o family via length critical is all =
     pin_opened (Here k p.heap) p.buffers all.pins (buffers.pin_through t n o family via length) (λ own. is)
 lent_pin false k p t n o family via length critical is all =
@@ -313,20 +313,23 @@ each_here s p (End t) can all =
     let q : Parts = record p { threads = threads.by t.0 threads.Detach ∷ p.threads; locals = locals.by t.0 locals.End ∷ p.locals } in
     let r : Parts = record q { monitors = monitors.by t.0 monitors.ReleaseAll ∷ p.monitors } in
     of_buffers k r (of_monitors k q (quiet k p all t.0 (threads.Detach ∷ []) (locals.End ∷ []) tt refl) t.0 monitors.ReleaseAll tt)
-        (buffers.ReleaseAll t.0 ∷ p.buffers)
+    (buffers.ReleaseAll t.0 ∷ p.buffers)
     (pins_released (Here k p.heap) p.buffers all.pins t.0)
 each_here s p (Enter t) can all = quiet (class_count s) p all t.0 (threads.Calm ∷ threads.Enter ∷ []) (locals.Enter ∷ []) tt refl
 each_here s p (Leave t kept) can all =
     let is = and_second (not (depth p t.0 == 0)) (is_kept_here s p kept) (and_second (is_attached p t.0) (not (depth p t.0 == 0) && is_kept_here s p kept) can)
-        in
-    kept_here s t.0 kept p (record p { threads = threads.by t.0 threads.Calm ∷ threads.by t.0 threads.Leave ∷ p.threads; locals =
-        locals.by t.0 locals.Leave ∷ p.locals }) is refl
+    in
+    kept_here s t.0 kept p (record p {
+      threads = threads.by t.0 threads.Calm ∷ threads.by t.0 threads.Leave ∷ p.threads;
+      locals =
+          locals.by t.0 locals.Leave ∷ p.locals;
+    }) is refl
     (quiet (class_count s) p all t.0 (threads.Calm ∷ threads.Leave ∷ []) (locals.Leave ∷ []) tt refl)
 each_here s p (Push t room) can all = quiet (class_count s) p all t.0 [] (locals.Push room ∷ []) tt refl
 each_here s p (Pop t kept) can all =
     kept_here s t.0 kept p (record p { locals = locals.by t.0 locals.Pop ∷ p.locals })
     (and_second (not (open_frames p t.0 == 0)) (is_kept_here s p kept)
-        (and_second (is_attached p t.0) (not (open_frames p t.0 == 0) && is_kept_here s p kept) can)) refl
+    (and_second (is_attached p t.0) (not (open_frames p t.0 == 0) && is_kept_here s p kept) can)) refl
     (quiet (class_count s) p all t.0 [] (locals.Pop ∷ []) tt refl)
 each_here s p (Ensure t room) can all = quiet (class_count s) p all t.0 [] (locals.Ensure room ∷ []) tt refl
 each_here s p (Raise t o) can all =
@@ -337,7 +340,7 @@ each_here s p (Lost r) can all = lost_here (class_count s) p all r
 each_here s p (Lend t family o via n) can all =
     let k : ℕ = class_count s in
     let is = here s p o.0 (and_first (is_here s p o.0) (is_through family via) (and_second (is_attached p t.0) (is_here s p o.0 && is_through family via) can))
-        in
+    in
     let q : Parts = record p { threads = threads.by t.0 threads.CountBuffer ∷ p.threads } in
     of_buffers k q (quiet k p all t.0 (threads.CountBuffer ∷ []) [] tt refl) (buffers.Opened (lent t.0 (next_buffer p t.0) family o.0 via n) ∷ p.buffers)
     (lent_pin (buffers.is_critical family) k p t.0 (next_buffer p t.0) o.0 family via n refl is all)
@@ -346,7 +349,7 @@ each_here s p (Back b) can all =
 each_here s p (Own t o) can all =
     of_monitors (class_count s) p all t.0 (monitors.Enter o.0) (here s p o.0
     (and_first (is_here s p o.0) (is_free_for t.0 (monitors.owner p.monitors o.0))
-        (and_second (is_attached p t.0) (is_here s p o.0 && is_free_for t.0 (monitors.owner p.monitors o.0)) can)))
+    (and_second (is_attached p t.0) (is_here s p o.0 && is_free_for t.0 (monitors.owner p.monitors o.0)) can)))
 each_here s p (Free t o) can all = of_monitors (class_count s) p all t.0 (monitors.Exit o.0) tt
 each_here s p (Meet class n) can all = met_here (class_count s) p all class n
 each_here s p (Gone o) can all =
@@ -391,13 +394,13 @@ held_is_here s w o could root =
     let p : Parts = parts_of w in
     let all = told_here s w could in
     is_here_of s p o (held_by (Here (class_count s) p.heap o) (locals.holds_object p.locals o) (globals.holds_object p.globals o)
-        (threads.is_pending p.threads o) (buffers.pins_object p.buffers o)
+    (threads.is_pending p.threads o) (buffers.pins_object p.buffers o)
     (monitors.held p.monitors o) root
     (λ is. let found = (local_held_law p.locals o).0 is in all.locals found.0 found.1 o found.2)
     (λ is. let found = (holds_law p.globals o).0 is in all.strong found.0 found.1 o found.2)
     (λ is. let found = (is_pending_law p.threads o).0 is in all.pending found.0 o found.1)
     (λ is. let found = (pinned_object_law p.buffers o).0 is
-        in subst (λ (x : ℕ). Here (class_count s) p.heap x) found.holds (all.pins found.maker found.n found.buffer found.is_open found.critical))
+    in subst (λ (x : ℕ). Here (class_count s) p.heap x) found.holds (all.pins found.maker found.n found.buffer found.is_open found.critical))
     (λ is. let found = (held_law p.monitors o).0 is in all.owned found.0 o found.1))
 
 -- ---- what is gone
@@ -426,8 +429,8 @@ gone_stays_gone s later older o could =
     let p : Parts = parts_of older in
     let can = (before s later (Gone o ∷ older) could).0 in
     let made = and_first (nat_lt o.0 (heap.count_of k p.heap)) (not (heap.gone_at k p.heap o.0))
-        (and_first (is_here s p o.0) (not (nat_lt o.0 k) && not (is_root p o.0)) can) in
+    (and_first (is_here s p o.0) (not (nat_lt o.0 k) && not (is_root p o.0)) can) in
     let class = not-true (nat_lt o.0 k)
-        (and_first (not (nat_lt o.0 k)) (not (is_root p o.0)) (and_second (is_here s p o.0) (not (nat_lt o.0 k) && not (is_root p o.0)) can)) in
+    (and_first (not (nat_lt o.0 k)) (not (is_root p o.0)) (and_second (is_here s p o.0) (not (nat_lt o.0 k) && not (is_root p o.0)) can)) in
     let gone = each_later (λ q. heap.gone_at k q.heap o.0 ≡ true) s (keeps_gone s o.0) later (Gone o ∷ older) could (gone_now k p.heap o.0 made class) in
     not_here (nat_lt o.0 (heap.count_of k (parts_of (later ++ Gone o ∷ older)).heap)) _ gone

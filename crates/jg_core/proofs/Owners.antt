@@ -47,9 +47,11 @@ lost_allowed (To Weak maker n) p old = old
 allowed : (s : StatedSetup) (p : Parts) (x : Fact) → can_be s p x ≡ true → AllAllowed p.monitors → AllAllowed (on x p).monitors
 allowed s p (End t) can old = (old, tt)
 allowed s p (Own t o) can old =
-    let here = and_second (is_attached p t.0) (is_here s p o.0 && is_free_for t.0 (owner p.monitors o.0)) can in
-    (old, alone p.monitors t.0 o.0 (owner p.monitors o.0) refl old
-        (not_busy (owner p.monitors o.0) t.0 (and_second (is_here s p o.0) (is_free_for t.0 (owner p.monitors o.0)) here)))
+    let here = and_second (is_attached p t.0) (is_here s p o.0 && is_free_for t.0 (owner p.monitors o.0)) can in (
+      old,
+      alone p.monitors t.0 o.0 (owner p.monitors o.0) refl old
+          (not_busy (owner p.monitors o.0) t.0 (and_second (is_here s p o.0) (is_free_for t.0 (owner p.monitors o.0)) here)),
+    )
 allowed s p (Free t o) can old = (old, owner_has p.monitors t.0 o.0 (owned_by (owner p.monitors o.0) t.0 can))
 allowed s p (Hand t kind o) can old = handed_allowed t.0 kind o.0 p old
 allowed s p (Leave t kept) can old = kept_allowed t.0 kept _ old

@@ -21,7 +21,7 @@ passed_told : {A : Type 0} (s : StatedSetup) (p : Parts) (t : Tid) (call : Call)
     → Foresees s p t call seen
     → value_in outcome ≡ Some value
     → link_facts (warning (is_warned outcome) seen.home)
-        ++ (answer_facts call t value o ++ if_effective (is_effective value) (own_told seen.own seen.gone.items t o))
+    ++ (answer_facts call t value o ++ if_effective (is_effective value) (own_told seen.own seen.gone.items t o))
     ≡ outcome_facts s p t call outcome o
 passed_told s p t call (Passed reply) o seen value foreseen is =
     let same : reply.value ≡ value = cc in
@@ -32,7 +32,7 @@ passed_told s p t call (Denied rule) o seen value foreseen is = absurd cc
 pub passed_so : {A : Type 0} (s : StatedSetup) (p : Parts) (x : Entry) (seen : Foreseen A) (call : Call) (t : Tid) (o : Option ObjId) (value : Value)
     (warned : Bool) (gone : List ℕ)
     (before did answered after : List Fact) → Foresees s p x.tid x.call seen → value_in x.outcome ≡ Some value → call ≡ x.call → t ≡ x.tid → o ≡ x.object
-        → warned ≡ is_warned x.outcome
+    → warned ≡ is_warned x.outcome
     → gone ≡ seen.gone.items → did ≡ before ++ reverse (if_effective (is_effective value) (own_told seen.own gone t o))
     → answered ≡ did ++ reverse (answer_facts call t value o)
     → after ≡ answered ++ reverse (link_facts (warning warned seen.home))

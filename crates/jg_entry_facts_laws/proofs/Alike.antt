@@ -58,9 +58,12 @@ reads s p q all others same = record {
 live_held : (s : StatedSetup) (p q : Parts) (o : ℕ) → Alike s p q → locals.holds_object p.locals o ≡ true → locals.holds_object q.locals o ≡ true
 live_held s p q o same is =
     let there = (local_held_law p.locals o).0 is in
-    (local_held_law q.locals o).1
-        (there.0, there.1, ap locals.object_of
-        (sym (same_live (locals.acts_of there.0 p.locals) (locals.acts_of there.0 q.locals) there.1 (same.locals there.0))) ∙ there.2)
+    (local_held_law q.locals o).1 (
+      there.0,
+      there.1,
+      ap locals.object_of
+          (sym (same_live (locals.acts_of there.0 p.locals) (locals.acts_of there.0 q.locals) there.1 (same.locals there.0))) ∙ there.2,
+    )
 
 strong_held : (s : StatedSetup) (p q : Parts) (o : ℕ) → Alike s p q → globals.holds_object p.globals o ≡ true → globals.holds_object q.globals o ≡ true
 strong_held s p q o same is =
@@ -90,8 +93,13 @@ turned s p q same = record {
   globals = record { strong = λ maker n. sym (same.globals.strong maker n); weak = λ maker n. sym (same.globals.weak maker n) };
   buffers = λ maker n. sym (same.buffers maker n);
   monitors = λ t. sym (same.monitors t);
-  heap = record { count = sym same.heap.count; gone = λ o. sym (same.heap.gone o); class = λ o. sym (same.heap.class o); length =
-      λ o. sym (same.heap.length o) };
+  heap = record {
+    count = sym same.heap.count;
+    gone = λ o. sym (same.heap.gone o);
+    class = λ o. sym (same.heap.class o);
+    length =
+        λ o. sym (same.heap.length o);
+  };
   links = sym same.links;
 }
 

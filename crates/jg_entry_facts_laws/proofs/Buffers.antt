@@ -77,7 +77,7 @@ copies_only : (e : List Event) (m n : ℕ) (b : Buffer) (critical : Bool) → is
     → opened e m n ≡ Some b → in_critical e m ≡ false → (if critical then None else Some b) ≡ Some b
 copies_only e m n b true is there none =
     absurd (clash (in_critical e m)
-        ((critical_law e m).1 (record { maker = m; n = n; buffer = b; is_open = there; critical = is; holds = own_maker e m n b there })) none)
+    ((critical_law e m).1 (record { maker = m; n = n; buffer = b; is_open = there; critical = is; holds = own_maker e m n b there })) none)
 copies_only e m n b false is there none = refl
 
 all_copies : (e : List Event) (m n : ℕ) (found : Option Buffer) → opened e m n ≡ found → in_critical e m ≡ false → copied_only found ≡ found

@@ -40,7 +40,7 @@ strong_made k i o e f same = record {
 
 weak_if : (b : Bool) (k i o : ℕ) (la lb : List Event) (a c : Option ℕ) → unless_cleared la a ≡ unless_cleared lb c
     → unless_cleared (if b then [] else MakeWeak k i o ∷ la) (if b then Some o else a)
-        ≡ unless_cleared (if b then [] else MakeWeak k i o ∷ lb) (if b then Some o else c)
+    ≡ unless_cleared (if b then [] else MakeWeak k i o ∷ lb) (if b then Some o else c)
 weak_if true k i o la lb a c same = refl
 weak_if false k i o la lb a c same = kept la (MakeWeak k i o) a (λ p. refl) ∙ (same ∙ sym (kept lb (MakeWeak k i o) c (λ p. refl)))
 

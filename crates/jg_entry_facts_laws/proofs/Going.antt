@@ -50,7 +50,7 @@ here_still s p a o apart =
     let k : ℕ = class_count s in
     let no : (o == a) ≡ false = grind (arith, nat_tests, apart) in
     ap (λ (b : Bool). nat_lt o (heap.count_of k p.heap) && not b)
-        (other_if (heap.gone_at k p.heap o) (nat_lt o (heap.count_of k p.heap) && not (nat_lt o k)) (o == a) no)
+    (other_if (heap.gone_at k p.heap o) (nat_lt o (heap.count_of k p.heap) && not (nat_lt o k)) (o == a) no)
 
 still_can : (s : StatedSetup) (p : Parts) (a o : ℕ) → o ≢ a → can_be s p (Gone (record { 0 = o })) ≡ true
     → can_be s (on (Gone (record { 0 = a })) p) (Gone (record { 0 = o })) ≡ true
@@ -76,7 +76,7 @@ module _ (s : StatedSetup) (goes : ℕ → Bool) where
   went_if true a n to p is below later ready =
       let low : a ≤ a = omega arith in
       can_more s (gone_facts (filter goes (range_with_len (a + 1) n))) (Gone (record { 0 = a }) ∷ []) p
-          (later (on (Gone (record { 0 = a })) p) (ready_later p a to ready)) (ready a low below is, tt)
+      (later (on (Gone (record { 0 = a })) p) (ready_later p a to ready)) (ready a low below is, tt)
   went_if false a n to p is below later ready = later p (ready_past p a to ready)
 
   all_can : (n a to : ℕ) (p : Parts) → a + n ≤ to → Ready p a to → CanAll s (gone_facts (filter goes (range_with_len a n))) p
@@ -114,7 +114,7 @@ collect_told s p q known =
     let n : ℕ = heap.count_of k q.heap in
     let whole : 0 + n ≤ n = omega arith in
     let a1 = globals_on s p q known.same (clear_each (going s q) p.globals) (map (λ o. globals.Clear o) (going s q) ++ q.globals)
-        (all_cleared (going s q) p.globals q.globals known.same.globals) in
+    (all_cleared (going s q) p.globals q.globals known.same.globals) in
     let a2 = heap_on s _ _ a1 (go_each (going s q) p.heap) (heap.Collected (roots s q) ∷ q.heap) (all_gone k (roots s q) p.heap q.heap known.same.heap) in
     record {
       can = all_can s goes n 0 n p whole (λ o from below is. not_held s p q known o below is);

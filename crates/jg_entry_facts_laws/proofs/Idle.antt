@@ -40,7 +40,7 @@ acted : (te : List threads.Event) (le : List locals.Event) (me : List monitors.E
     → Idle (map (threads.by u) xs ++ te) (map (locals.by u) ys ++ le) (map (monitors.by u) zs ++ me)
 acted te le me u xs ys zs own old t =
     each_thread (λ v. DidNothing (threads.acts_of v (map (threads.by u) xs ++ te)) (locals.acts_of v (map (locals.by u) ys ++ le))
-        (monitors.acts_of v (map (monitors.by u) zs ++ me))) u
+    (monitors.acts_of v (map (monitors.by u) zs ++ me))) u
     (rw (own_acts u xs te, own_acts u ys le, own_acts u zs me) own)
     (λ v differ. rw (acts_others v u xs te differ, acts_others v u ys le differ, acts_others v u zs me differ) (old v))
     t
@@ -62,7 +62,7 @@ by_local : (p : Parts) (t n : ℕ) (on_now : Bool) → is_attached p t ≡ on_no
 by_local p t n true is agreed idle some = refl
 by_local p t n false is agreed idle some =
     let none : locals.live n (locals.acts_of t p.locals) ≡ None =
-        ap locals.object_of (idle_live (locals.acts_of t p.locals) n (sym agreed.session ∙ is) (idle t is).1) in
+    ap locals.object_of (idle_live (locals.acts_of t p.locals) n (sym agreed.session ∙ is) (idle t is).1) in
     absurd (being_if (t == t) (locals.live n (locals.acts_of t p.locals)) none some)
 
 by_monitor : (p : Parts) (t o : ℕ) (on_now : Bool) → is_attached p t ≡ on_now → IsIdle p → is_owner t (monitors.owner p.monitors o) ≡ true → on_now ≡ true
@@ -89,7 +89,7 @@ lost_idle : (s : StatedSetup) (p : Parts) (r : Ref) → can_be s p (Lost r) ≡ 
 lost_idle s p Null can agreed old = old
 lost_idle s p (To Local maker n) can agreed old =
     acted p.threads p.locals p.monitors maker.0 [] (locals.Delete n ∷ []) []
-        (λ none. off (is_attached p maker.0) (by_local p maker.0 n (is_attached p maker.0) refl (agreed maker.0) old can) none) old
+    (λ none. off (is_attached p maker.0) (by_local p maker.0 n (is_attached p maker.0) refl (agreed maker.0) old can) none) old
 lost_idle s p (To Global maker n) can agreed old = old
 lost_idle s p (To Weak maker n) can agreed old = old
 
@@ -109,7 +109,7 @@ each_idle s p (Enter t) can agreed old =
 each_idle s p (Leave t kept) can agreed old =
     let here = and_first (is_attached p t.0) (not (depth p t.0 == 0) && is_kept_here s p kept) can in
     kept_idle (record p { threads = threads.by t.0 threads.Calm ∷ threads.by t.0 threads.Leave ∷ p.threads; locals = locals.by t.0 locals.Leave ∷ p.locals })
-        t.0 kept
+    t.0 kept
     (left_attached p t.0 (threads.Calm ∷ threads.Leave ∷ []) here)
     (acted p.threads p.locals p.monitors t.0 (threads.Calm ∷ threads.Leave ∷ []) (locals.Leave ∷ []) [] (λ none. off (is_attached p t.0) here none) old)
 each_idle s p (Push t room) can agreed old =
@@ -128,7 +128,7 @@ each_idle s p (Hand t kind o) can agreed old = handed_idle p t.0 kind o.0 (and_f
 each_idle s p (Lost r) can agreed old = lost_idle s p r can agreed old
 each_idle s p (Lend t family o via n) can agreed old =
     acted p.threads p.locals p.monitors t.0 (threads.CountBuffer ∷ []) [] []
-        (λ none. off (is_attached p t.0) (and_first (is_attached p t.0) (is_here s p o.0 && is_through family via) can) none) old
+    (λ none. off (is_attached p t.0) (and_first (is_attached p t.0) (is_here s p o.0 && is_through family via) can) none) old
 each_idle s p (Back b) can agreed old = old
 each_idle s p (Own t o) can agreed old =
     acted p.threads p.locals p.monitors t.0 [] [] (monitors.Enter o.0 ∷ [])
@@ -136,7 +136,7 @@ each_idle s p (Own t o) can agreed old =
     (and_first (is_attached p t.0) (is_here s p o.0 && is_free_for t.0 (monitors.owner p.monitors o.0)) can) none) old
 each_idle s p (Free t o) can agreed old =
     acted p.threads p.locals p.monitors t.0 [] [] (monitors.Exit o.0 ∷ [])
-        (λ none. off (is_attached p t.0) (by_monitor p t.0 o.0 (is_attached p t.0) refl old can) none) old
+    (λ none. off (is_attached p t.0) (by_monitor p t.0 o.0 (is_attached p t.0) refl old can) none) old
 each_idle s p (Meet class n) can agreed old = old
 each_idle s p (Gone o) can agreed old = old
 each_idle s p (Link class native) can agreed old = old

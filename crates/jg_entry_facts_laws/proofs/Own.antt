@@ -78,7 +78,7 @@ raise_told s p d t o xs told on_now here =
     next s p d (record d { threads = threads.by t.0 (threads.Raise o.0) ∷ d.threads }) (Raise t o) xs told
     (and_from (is_attached r t.0) (is_here s r o.0) (same_attached s r d told.alike t.0 ∙ on_now) (same_here s r d told.alike o.0 ∙ here))
     (threads_on s r d told.alike t.0 (threads.Raise o.0 ∷ []) (threads.Raise o.0 ∷ [])
-        (raise_both o.0 (threads.acts_of t.0 r.threads) (threads.acts_of t.0 d.threads)))
+    (raise_both o.0 (threads.acts_of t.0 r.threads) (threads.acts_of t.0 d.threads)))
 
 -- an object is made
 pub meet_told : (s : StatedSetup) (p q : Parts) (m : Making) → Alike s p q → nat_lt (class_in m) (class_count s) ≡ true
@@ -131,7 +131,7 @@ module _ (s : StatedSetup) (p q : Parts) (known : Known s p q) (t : Tid) where
       let above : nat_lt 0 t.0 ≡ true = grind (arith, nat_tests, some) in
       let out : not (is_attached p t.0) ≡ true = ap not (same_on false is) in
       let now = threads_on s p q known.same t.0 (threads.Attach ∷ []) (threads.Attach ∷ [])
-          (attach_both (threads.acts_of t.0 p.threads) (threads.acts_of t.0 q.threads)) in
+      (attach_both (threads.acts_of t.0 p.threads) (threads.acts_of t.0 q.threads)) in
       one s p _ (Begin t) (and_from (nat_lt 0 t.0) (not (is_attached p t.0)) above out) (local_on s _ _ now t.0 locals.Start)
 
   pub detach_told : (b : Bool) → is_attached q t.0 ≡ b → buffers.in_critical q.buffers t.0 ≡ false
@@ -143,16 +143,16 @@ module _ (s : StatedSetup) (p q : Parts) (known : Known s p q) (t : Tid) where
       (end_facts b t)
   detach_told true is free =
       let a1 = threads_on s p q known.same t.0 (threads.Detach ∷ []) (threads.Detach ∷ [])
-          (detach_both (threads.acts_of t.0 p.threads) (threads.acts_of t.0 q.threads)) in
+      (detach_both (threads.acts_of t.0 p.threads) (threads.acts_of t.0 q.threads)) in
       let a2 = local_on s _ _ a1 t.0 locals.End in
       let a3 = monitor_on s _ _ a2 t.0 monitors.ReleaseAll in
       let none_open : buffers.in_critical p.buffers t.0 ≡ false = same_critical p.buffers q.buffers t.0 known.same.buffers ∙ free in
       one s p _ (End t) (same_on true is)
-          (buffers_on s _ _ a3 (buffers.ReleaseAll t.0 ∷ p.buffers) q.buffers (released_none p.buffers q.buffers t.0 none_open known.same.buffers))
+      (buffers_on s _ _ a3 (buffers.ReleaseAll t.0 ∷ p.buffers) q.buffers (released_none p.buffers q.buffers t.0 none_open known.same.buffers))
   detach_told false is free =
       let nothing = known.idle t.0 (same_on false is) in
       let a1 = threads_on s p q known.same t.0 [] (threads.Detach ∷ []) (detach_idle (threads.acts_of t.0 p.threads) (threads.acts_of t.0 q.threads) nothing.0)
-          in
+      in
       let out : locals.has_session (locals.acts_of t.0 p.locals) ≡ false = sym (known.agreed t.0).session ∙ same_on false is in
       let a2 = locals_on s _ _ a1 t.0 [] (locals.End ∷ []) (end_idle (locals.acts_of t.0 p.locals) (locals.acts_of t.0 q.locals) out nothing.1) in
       none s p _ (monitors_on s _ _ a2 t.0 [] (monitors.ReleaseAll ∷ []) (λ old. nothing.2))
@@ -161,7 +161,7 @@ module _ (s : StatedSetup) (p q : Parts) (known : Known s p q) (t : Tid) where
       → Told s p (record q { threads = threads.by t.0 threads.Enter ∷ q.threads; locals = locals.by t.0 locals.Enter ∷ q.locals }) (Enter t ∷ [])
   enter_told is calm =
       let a1 = threads_on s p q known.same t.0 (threads.Calm ∷ threads.Enter ∷ []) (threads.Enter ∷ [])
-          (enter_both (threads.acts_of t.0 p.threads) (threads.acts_of t.0 q.threads) calm) in
+      (enter_both (threads.acts_of t.0 p.threads) (threads.acts_of t.0 q.threads) calm) in
       one s p _ (Enter t) (same_on true is) (local_on s _ _ a1 t.0 locals.Enter)
 
   -- with nothing pending, or with what was pending raised again
@@ -172,14 +172,14 @@ module _ (s : StatedSetup) (p q : Parts) (known : Known s p q) (t : Tid) where
   leave_can kept is deep here =
       let down : not (depth p t.0 == 0) ≡ true = rw depth_is (ap not deep) in
       and_from (is_attached p t.0) (not (depth p t.0 == 0) && is_kept_here s p kept) (same_on true is)
-          (and_from (not (depth p t.0 == 0)) (is_kept_here s p kept) down here)
+      (and_from (not (depth p t.0 == 0)) (is_kept_here s p kept) down here)
 
   left_alike : pending q t.0 ≡ None
       → Alike s (record p { threads = threads.by t.0 threads.Calm ∷ threads.by t.0 threads.Leave ∷ p.threads; locals = locals.by t.0 locals.Leave ∷ p.locals })
       (record q { threads = threads.by t.0 threads.Leave ∷ q.threads; locals = locals.by t.0 locals.Leave ∷ q.locals })
   left_alike calm =
       let a1 = threads_on s p q known.same t.0 (threads.Calm ∷ threads.Leave ∷ []) (threads.Leave ∷ [])
-          (leave_both (threads.acts_of t.0 p.threads) (threads.acts_of t.0 q.threads) calm) in
+      (leave_both (threads.acts_of t.0 p.threads) (threads.acts_of t.0 q.threads) calm) in
       local_on s _ _ a1 t.0 locals.Leave
 
   pub leave_told : is_attached q t.0 ≡ true → (depth q t.0 == 0) ≡ false → pending q t.0 ≡ None
@@ -189,14 +189,14 @@ module _ (s : StatedSetup) (p q : Parts) (known : Known s p q) (t : Tid) where
   pub leave_kept : (o : ObjId) (n : ℕ) → is_attached q t.0 ≡ true → (depth q t.0 == 0) ≡ false → pending q t.0 ≡ None → is_here s q o.0 ≡ true
       → next_ref (record q { threads = threads.by t.0 threads.Leave ∷ q.threads }) t.0 ≡ n
       → Told s p (handed_by t.0 Local n o.0 (record q { threads = threads.by t.0 threads.Leave ∷ q.threads; locals = locals.by t.0 locals.Leave ∷ q.locals }))
-          (Leave t (Some o) ∷ [])
+      (Leave t (Some o) ∷ [])
   leave_kept o n is deep calm here number =
       one s p _ (Leave t (Some o)) (leave_can (Some o) is deep (same_here s p q known.same o.0 ∙ here))
-          (handed_alike s _ _ t.0 Local n o.0 number (left_alike calm))
+      (handed_alike s _ _ t.0 Local n o.0 number (left_alike calm))
 
   pub leave_pending : (o : ℕ) → is_attached q t.0 ≡ true → (depth q t.0 == 0) ≡ false → pending q t.0 ≡ Some o → is_here s q o ≡ true
       → Told s p (record q { threads = threads.by t.0 threads.Leave ∷ q.threads; locals = locals.by t.0 locals.Leave ∷ q.locals })
-          (Raise t (record { 0 = o }) ∷ Leave t None ∷ [])
+      (Raise t (record { 0 = o }) ∷ Leave t None ∷ [])
   leave_pending o is deep raised here =
       let a1 =
       threads_on s p q known.same t.0 (threads.Raise o ∷ threads.Calm ∷ threads.Leave ∷ []) (threads.Leave ∷ [])
@@ -217,7 +217,7 @@ module _ (s : StatedSetup) (p q : Parts) (known : Known s p q) (t : Tid) where
   pop_can kept is some here =
       let down : not (open_frames p t.0 == 0) ≡ true = rw frames_are (ap not some) in
       and_from (is_attached p t.0) (not (open_frames p t.0 == 0) && is_kept_here s p kept) (same_on true is)
-          (and_from (not (open_frames p t.0 == 0)) (is_kept_here s p kept) down here)
+      (and_from (not (open_frames p t.0 == 0)) (is_kept_here s p kept) down here)
 
   pub pop_told : is_attached q t.0 ≡ true → (open_frames q t.0 == 0) ≡ false
       → Told s p (record q { locals = locals.by t.0 locals.Pop ∷ q.locals }) (Pop t None ∷ [])
@@ -227,7 +227,7 @@ module _ (s : StatedSetup) (p q : Parts) (known : Known s p q) (t : Tid) where
       → Told s p (handed_by t.0 Local (next_ref q t.0) o.0 (record q { locals = locals.by t.0 locals.Pop ∷ q.locals })) (Pop t (Some o) ∷ [])
   pop_kept o is some here =
       one s p _ (Pop t (Some o)) (pop_can (Some o) is some (same_here s p q known.same o.0 ∙ here))
-          (handed_alike s _ _ t.0 Local (next_ref q t.0) o.0 refl (local_on s p q known.same t.0 locals.Pop))
+      (handed_alike s _ _ t.0 Local (next_ref q t.0) o.0 refl (local_on s p q known.same t.0 locals.Pop))
 
   pub push_told : (room : ℕ) → is_attached q t.0 ≡ true → Told s p (record q { locals = locals.by t.0 (locals.Push room) ∷ q.locals }) (Push t room ∷ [])
   push_told room is = one s p _ (Push t room) (same_on true is) (local_on s p q known.same t.0 (locals.Push room))
@@ -238,7 +238,7 @@ module _ (s : StatedSetup) (p q : Parts) (known : Known s p q) (t : Tid) where
   pub calm_told : is_attached q t.0 ≡ true → Told s p (record q { threads = threads.by t.0 threads.Calm ∷ q.threads }) (Calm t ∷ [])
   calm_told is =
       one s p _ (Calm t) (same_on true is)
-          (threads_on s p q known.same t.0 (threads.Calm ∷ []) (threads.Calm ∷ []) (calm_both (threads.acts_of t.0 p.threads) (threads.acts_of t.0 q.threads)))
+      (threads_on s p q known.same t.0 (threads.Calm ∷ []) (threads.Calm ∷ []) (calm_both (threads.acts_of t.0 p.threads) (threads.acts_of t.0 q.threads)))
 
   -- ---- references that end
 
@@ -252,9 +252,9 @@ module _ (s : StatedSetup) (p q : Parts) (known : Known s p q) (t : Tid) where
       → Told s p (record q { locals = locals.by t.0 (locals.Delete n) ∷ q.locals }) (Lost (To Local maker n) ∷ [])
   local_told maker n own alive =
       one s p _ (Lost (To Local maker n))
-          (being maker.0 (To Local maker n) (subst (λ (u : ℕ). is_nothing (names q u (To Local maker n)) ≡ false) (sym own) alive))
+      (being maker.0 (To Local maker n) (subst (λ (u : ℕ). is_nothing (names q u (To Local maker n)) ≡ false) (sym own) alive))
       (subst (λ (u : ℕ). Alike s (record p { locals = locals.by maker.0 (locals.Delete n) ∷ p.locals })
-          (record q { locals = locals.by u (locals.Delete n) ∷ q.locals })) own
+      (record q { locals = locals.by u (locals.Delete n) ∷ q.locals })) own
       (local_on s p q known.same maker.0 (locals.Delete n)))
 
   pub strong_told : (maker : Tid) (n : ℕ) → is_nothing (names q t.0 (To Global maker n)) ≡ false
@@ -283,7 +283,7 @@ module _ (s : StatedSetup) (p q : Parts) (known : Known s p q) (t : Tid) where
       → Told s p (record q { monitors = monitors.by t.0 (monitors.Enter o) ∷ q.monitors }) (Own t (record { 0 = o }) ∷ [])
   own_told o is here enters =
       let free : is_free_for t.0 (monitors.owner p.monitors o) ≡ true = ap (is_free_for t.0) (reading.owners o) ∙ free_for (monitors.owner q.monitors o) enters
-          in
+      in
       one s p _ (Own t (record { 0 = o }))
       (and_from (is_attached p t.0) (is_here s p o && is_free_for t.0 (monitors.owner p.monitors o)) (same_on true is)
       (and_from (is_here s p o) (is_free_for t.0 (monitors.owner p.monitors o)) (same_here s p q known.same o ∙ here) free))
@@ -303,7 +303,7 @@ module _ (s : StatedSetup) (p q : Parts) (known : Known s p q) (t : Tid) where
       (record q { threads = threads.by t.0 threads.CountBuffer ∷ q.threads })
   counted_buffer =
       threads_on s p q known.same t.0 (threads.CountBuffer ∷ []) (threads.CountBuffer ∷ [])
-          (buffer_both (threads.acts_of t.0 p.threads) (threads.acts_of t.0 q.threads))
+      (buffer_both (threads.acts_of t.0 p.threads) (threads.acts_of t.0 q.threads))
 
   lend_can : (family : Family) (o : ℕ) (via : Ref) (n : ℕ) → is_attached q t.0 ≡ true → is_here s q o ≡ true → is_through family via ≡ true
       → can_be s p (Lend t family (record { 0 = o }) via n) ≡ true
@@ -312,8 +312,11 @@ module _ (s : StatedSetup) (p q : Parts) (known : Known s p q) (t : Tid) where
       (and_from (is_here s p o) (is_through family via) (same_here s p q known.same o ∙ here) through)
 
   pub copy_told : (family : Family) (o : ℕ) (items : List ℤ) → buffers.is_critical family ≡ false → is_attached q t.0 ≡ true → is_here s q o ≡ true
-      → Told s p (record q { threads = threads.by t.0 threads.CountBuffer ∷ q.threads; buffers =
-          buffers.Opened (buffers.copy_with t.0 (next_buffer q t.0) o family items) ∷ q.buffers })
+      → Told s p (record q {
+        threads = threads.by t.0 threads.CountBuffer ∷ q.threads;
+        buffers =
+            buffers.Opened (buffers.copy_with t.0 (next_buffer q t.0) o family items) ∷ q.buffers;
+      })
       (Lend t family (record { 0 = o }) Null (length items) ∷ [])
   copy_told family o items copy is here =
       let b : buffers.Buffer = lent t.0 (next_buffer p t.0) family o Null (length items) in
@@ -325,8 +328,11 @@ module _ (s : StatedSetup) (p q : Parts) (known : Known s p q) (t : Tid) where
 
   pub pin_told : (family : Family) (o : ℕ) (via : Ref) (n : ℕ) → buffers.is_critical family ≡ true → buffers.is_null via ≡ false → is_attached q t.0 ≡ true
       → is_here s q o ≡ true
-      → Told s p (record q { threads = threads.by t.0 threads.CountBuffer ∷ q.threads; buffers =
-          buffers.Opened (buffers.pin_through t.0 (next_buffer q t.0) o family via n) ∷ q.buffers })
+      → Told s p (record q {
+        threads = threads.by t.0 threads.CountBuffer ∷ q.threads;
+        buffers =
+            buffers.Opened (buffers.pin_through t.0 (next_buffer q t.0) o family via n) ∷ q.buffers;
+      })
       (Lend t family (record { 0 = o }) via n ∷ [])
   pin_told family o via n pins through is here =
       let b : buffers.Buffer = lent t.0 (next_buffer p t.0) family o via n in
@@ -339,4 +345,4 @@ module _ (s : StatedSetup) (p q : Parts) (known : Known s p q) (t : Tid) where
   pub back_told : (b : BufId) → is_some (buffer_named q b) ≡ true → Told s p (record q { buffers = buffers.Closed b.maker.0 b.n ∷ q.buffers }) (Back b ∷ [])
   back_told b there =
       one s p _ (Back b) (ap is_some (reading.lent b) ∙ there)
-          (buffers_on s p q known.same _ _ (closed_both p.buffers q.buffers b.maker.0 b.n known.same.buffers))
+      (buffers_on s p q known.same _ _ (closed_both p.buffers q.buffers b.maker.0 b.n known.same.buffers))

@@ -76,20 +76,52 @@ module _ (s : StatedSetup) (p q : Parts) (same : Alike s p q) where
   monitor_on t x = monitors_on t (x ∷ []) (x ∷ []) (monitor_more (monitors.acts_of t p.monitors) (monitors.acts_of t q.monitors) x)
 
   pub globals_on : (e f : List globals.Event) → SameGlobals e f → Alike s (record p { globals = e }) (record q { globals = f })
-  globals_on e f now = record { threads = same.threads; locals = same.locals; globals = now; buffers = same.buffers; monitors = same.monitors; heap =
-      same.heap; links = same.links }
+  globals_on e f now = record {
+    threads = same.threads;
+    locals = same.locals;
+    globals = now;
+    buffers = same.buffers;
+    monitors = same.monitors;
+    heap =
+        same.heap;
+    links = same.links;
+  }
 
   pub buffers_on : (e f : List buffers.Event) → SameBuffers e f → Alike s (record p { buffers = e }) (record q { buffers = f })
-  buffers_on e f now = record { threads = same.threads; locals = same.locals; globals = same.globals; buffers = now; monitors = same.monitors; heap =
-      same.heap; links = same.links }
+  buffers_on e f now = record {
+    threads = same.threads;
+    locals = same.locals;
+    globals = same.globals;
+    buffers = now;
+    monitors = same.monitors;
+    heap =
+        same.heap;
+    links = same.links;
+  }
 
   pub heap_on : (e f : List heap.Event) → SameHeap (class_count s) e f → Alike s (record p { heap = e }) (record q { heap = f })
-  heap_on e f now = record { threads = same.threads; locals = same.locals; globals = same.globals; buffers = same.buffers; monitors = same.monitors; heap =
-      now; links = same.links }
+  heap_on e f now = record {
+    threads = same.threads;
+    locals = same.locals;
+    globals = same.globals;
+    buffers = same.buffers;
+    monitors = same.monitors;
+    heap =
+        now;
+    links = same.links;
+  }
 
   pub links_on : (x : links.Event) → Alike s (record p { links = x ∷ p.links }) (record q { links = x ∷ q.links })
-  links_on x = record { threads = same.threads; locals = same.locals; globals = same.globals; buffers = same.buffers; monitors = same.monitors; heap =
-      same.heap; links = ap (λ e. x ∷ e) same.links }
+  links_on x = record {
+    threads = same.threads;
+    locals = same.locals;
+    globals = same.globals;
+    buffers = same.buffers;
+    monitors = same.monitors;
+    heap =
+        same.heap;
+    links = ap (λ e. x ∷ e) same.links;
+  }
 
   -- what is read of a thread and of an object
   pub same_attached : (t : ℕ) → is_attached p t ≡ is_attached q t
@@ -122,14 +154,14 @@ handed_next s p q t Local o same =
     (locals.Make (next_ref p t) o)
 handed_next s p q t Global o same =
     globals_on s (record p { threads = threads.by t threads.CountRef ∷ p.threads }) (record q { threads = threads.by t threads.CountRef ∷ q.threads })
-        (counted s p q t same)
+    (counted s p q t same)
     (globals.MakeStrong t (next_ref p t) o ∷ p.globals) (globals.MakeStrong t (next_ref p t) o ∷ q.globals)
-        (strong_made t (next_ref p t) o p.globals q.globals same.globals)
+    (strong_made t (next_ref p t) o p.globals q.globals same.globals)
 handed_next s p q t Weak o same =
     globals_on s (record p { threads = threads.by t threads.CountRef ∷ p.threads }) (record q { threads = threads.by t threads.CountRef ∷ q.threads })
-        (counted s p q t same)
+    (counted s p q t same)
     (globals.MakeWeak t (next_ref p t) o ∷ p.globals) (globals.MakeWeak t (next_ref p t) o ∷ q.globals)
-        (weak_made t (next_ref p t) o p.globals q.globals same.globals)
+    (weak_made t (next_ref p t) o p.globals q.globals same.globals)
 
 pub handed_alike : (s : StatedSetup) (p q : Parts) (t : ℕ) (kind : Kind) (n o : ℕ) → next_ref q t ≡ n → Alike s p q
     → Alike s (handed_on t kind o p) (handed_by t kind n o q)

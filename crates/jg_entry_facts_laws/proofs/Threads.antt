@@ -25,16 +25,40 @@ attach_both a b same = record {
 }
 
 pub detach_both : (a b : List Act) → SameThread a b → SameThread (Detach ∷ a) (Detach ∷ b)
-detach_both a b same = record { attached = refl; sessions = same.sessions; enters = refl; leaves = refl; pending = refl; refs = same.refs; buffers =
-    same.buffers }
+detach_both a b same = record {
+  attached = refl;
+  sessions = same.sessions;
+  enters = refl;
+  leaves = refl;
+  pending = refl;
+  refs = same.refs;
+  buffers =
+      same.buffers;
+}
 
 pub raise_both : (o : ℕ) (a b : List Act) → SameThread a b → SameThread (Raise o ∷ a) (Raise o ∷ b)
-raise_both o a b same = record { attached = same.attached; sessions = same.sessions; enters = same.enters; leaves = same.leaves; pending = refl; refs =
-    same.refs; buffers = same.buffers }
+raise_both o a b same = record {
+  attached = same.attached;
+  sessions = same.sessions;
+  enters = same.enters;
+  leaves = same.leaves;
+  pending = refl;
+  refs =
+      same.refs;
+  buffers = same.buffers;
+}
 
 pub calm_both : (a b : List Act) → SameThread a b → SameThread (Calm ∷ a) (Calm ∷ b)
-calm_both a b same = record { attached = same.attached; sessions = same.sessions; enters = same.enters; leaves = same.leaves; pending = refl; refs =
-    same.refs; buffers = same.buffers }
+calm_both a b same = record {
+  attached = same.attached;
+  sessions = same.sessions;
+  enters = same.enters;
+  leaves = same.leaves;
+  pending = refl;
+  refs =
+      same.refs;
+  buffers = same.buffers;
+}
 
 pub ref_both : (a b : List Act) → SameThread a b → SameThread (CountRef ∷ a) (CountRef ∷ b)
 ref_both a b same =

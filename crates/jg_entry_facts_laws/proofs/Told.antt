@@ -113,13 +113,13 @@ hands : (s : StatedSetup) (p q : Parts) (t : Tid) (call : Call) (kind : Kind) (f
 hands s p q t call kind None xs told on_now here = told
 hands s p q t call Local (Some o) xs told on_now here =
     hand_told s p (done_by s t.0 call q) t Local (record { 0 = o }) (next_ref q t.0) xs told on_now
-        (here_is (class_count s) (call_heap s q t.0 call ++ q.heap) o here) (next_done s q t.0 call t.0)
+    (here_is (class_count s) (call_heap s q t.0 call ++ q.heap) o here) (next_done s q t.0 call t.0)
 hands s p q t call Global (Some o) xs told on_now here =
     hand_told s p (done_by s t.0 call q) t Global (record { 0 = o }) (next_ref q t.0) xs told on_now
-        (here_is (class_count s) (call_heap s q t.0 call ++ q.heap) o here) (next_done s q t.0 call t.0)
+    (here_is (class_count s) (call_heap s q t.0 call ++ q.heap) o here) (next_done s q t.0 call t.0)
 hands s p q t call Weak (Some o) xs told on_now here =
     hand_told s p (done_by s t.0 call q) t Weak (record { 0 = o }) (next_ref q t.0) xs told on_now
-        (here_is (class_count s) (call_heap s q t.0 call ++ q.heap) o here) (next_done s q t.0 call t.0)
+    (here_is (class_count s) (call_heap s q t.0 call ++ q.heap) o here) (next_done s q t.0 call t.0)
 
 thrown_known : (s : StatedSetup) (kind : Thrown) → nat_lt (class_thrown kind) (class_count s) ≡ true
 thrown_known s ArrayIndexOutOfBounds = grind (arith, nat_tests)
@@ -152,7 +152,7 @@ found_brings : (s : StatedSetup) (p q : Parts) (t : Tid) (call : Call) (class : 
     → Told s p (done_by s t.0 call q) xs → Alike s p q → is_attached q t.0 ≡ true
     → is_attached (done_by s t.0 call q) t.0 ≡ true
     → AnswersHere (class_count s) (if_effective (is_effective (class_found s q t class).reply.value) (call_heap s q t.0 call) ++ q.heap)
-        (class_found s q t class)
+    (class_found s q t class)
     → Brings s p q t call (class_found s q t class).reply.value (class_found s q t class).object xs
 found_brings s p q t call None xs told same on_now later here = throws s p q t call NoClassDefFound xs same on_now
 found_brings s p q t call (Some class) xs told same on_now later here = hands s p q t call Local (Some class) xs told later here
@@ -236,7 +236,7 @@ class_stated s p q t env call m is u known =
     let n : ℕ = heap.count_of k q.heap in
     let after = (done_here s q t.0 env call u known.all).known n in
     let here : class_in (heap.making_at k ((heap.Made m ∷ []) ++ q.heap) n) < k =
-        subst (λ (e : List heap.Event). class_in (heap.making_at k (e ++ q.heap) n) < k) is after in
+    subst (λ (e : List heap.Event). class_in (heap.making_at k (e ++ q.heap) n) < k) is after in
     let own : (n == n) ≡ true = grind (arith, nat_tests) in
     let few : class_in m < k = new_if (n == n) k m (heap.making_at k q.heap n) own here in
     grind (arith, nat_tests, few)
@@ -285,8 +285,11 @@ closing_told s p q t b false f known now there =
     (buffers.Closed b.maker.0 b.n ∷ q.buffers) (closed_both p.buffers q.buffers b.maker.0 b.n known.same.buffers))
 
 write_if : (s : StatedSetup) (p q : Parts) (t : Tid) (b : BufId) (i : ℕ) (v : ℤ) (o : ℕ) (pins : Bool) → Alike s p q
-    → Told s p (record q { buffers = (if pins then [] else buffers.Wrote b.maker.0 b.n i v ∷ []) ++ q.buffers; heap =
-        (if pins then heap.Wrote o i (Number v) ∷ [] else []) ++ q.heap })
+    → Told s p (record q {
+      buffers = (if pins then [] else buffers.Wrote b.maker.0 b.n i v ∷ []) ++ q.buffers;
+      heap =
+          (if pins then heap.Wrote o i (Number v) ∷ [] else []) ++ q.heap;
+    })
     (buffer_facts t (if pins then [] else buffers.Wrote b.maker.0 b.n i v ∷ []))
 write_if s p q t b i v o true same = wrote_told s p q o i (Number v) same
 write_if s p q t b i v o false same =
@@ -416,7 +419,7 @@ module _ (s : StatedSetup) (p q : Parts) (t : Tid) (env : Option EnvId) (known :
   vm_core (NativeEnter class method signature) u =
       let c : Call = Vm (NativeEnter class method signature) in
       hands_call c Local (class_named s class) (Enter t ∷ []) refl u (enter_told s p q known t (present c refl u) (None-if_not_some (pending q t.0) u.calm))
-          (answered_here c u)
+      (answered_here c u)
   vm_core (NativeLeave r) u =
       leaves s p q t r (pending q t.0) (object_named q t.0 r) known (present (Vm (NativeLeave r)) refl u) u.right_frame refl
       (λ o is. named_is s p q t.0 o r known is) (λ o is. here_is (class_count s) q.heap o (known.all.pending t.0 o is))
@@ -426,7 +429,7 @@ module _ (s : StatedSetup) (p q : Parts) (t : Tid) (env : Option EnvId) (known :
       let meant : Option ℕ = class_meant s q t.0 class in
       registered_brings s p q t c meant (native_meant s meant method signature) (link_facts (linking meant (native_meant s meant method signature)))
       (linking_told s p q meant (native_meant s meant method signature) known.same (λ x n is named. native_if s meant method signature x n is named)) known.same
-          (present c refl u)
+      (present c refl u)
   vm_core (UnregisterNatives class) u = unlinking_told s p q (object_named q t.0 class) known.same
   vm_core Collect u = collect_told s p q known
 
@@ -459,13 +462,13 @@ module _ (s : StatedSetup) (p q : Parts) (t : Tid) (env : Option EnvId) (known :
   -- a call that makes an object and hands out a local for it
   makes_call : (call : Call) (m : Making) → call_heap s q t.0 call ≡ heap.Made m ∷ [] → needs_env (fun_of call) ≡ true → Unbroken s q t.0 env call
       → (Told s p (record q { heap = heap.Made m ∷ q.heap }) (Meet (class_in m) (length_in m) ∷ [])
-          → Told s p (done_by s t.0 call q) (Meet (class_in m) (length_in m) ∷ []))
+      → Told s p (done_by s t.0 call q) (Meet (class_in m) (length_in m) ∷ []))
       → AnswersHere (class_count s) (call_heap s q t.0 call ++ q.heap) (handed q t Local (Some (object_count s q)))
       → Brings s p q t call (handed q t Local (Some (object_count s q))).reply.value (handed q t Local (Some (object_count s q))).object
-          (Meet (class_in m) (length_in m) ∷ [])
+      (Meet (class_in m) (length_in m) ∷ [])
   makes_call call m is takes u own here =
       hands_call call Local (Some (object_count s q)) (Meet (class_in m) (length_in m) ∷ []) takes u
-          (own (meet_told s p q m known.same (class_stated s p q t env call m is u known))) here
+      (own (meet_told s p q m known.same (class_stated s p q t env call m is u known))) here
 
   objects_core : (call : ObjectsCall) → Unbroken s q t.0 env (Objects call) → Core s p q t (Objects call)
   objects_core (FindClass name) u =
@@ -477,14 +480,14 @@ module _ (s : StatedSetup) (p q : Parts) (t : Tid) (env : Option EnvId) (known :
   objects_core (AllocObject class) u =
       let c : Call = Objects (AllocObject class) in
       makes_call c (Plain (the_object q t.0 class) (map first_value (fields_in (class_at s (the_object q t.0 class))))) refl refl u (λ told. told)
-          (answered_here c u)
+      (answered_here c u)
   objects_core (GetFieldID class field signature) u =
       let c : Call = Objects (GetFieldID class field signature) in
       field_brings s p q t c (field_meant s (class_meant s q t.0 class) field signature) [] nothing known.same (present c refl u)
   objects_core (GetField primitive r field) u = nothing
   objects_core (GetObjectField r field) u =
       hands_call (Objects (GetObjectField r field)) Local (target_in (field_value s q (the_object q t.0 r) field)) [] refl u nothing
-          (answered_here (Objects (GetObjectField r field)) u)
+      (answered_here (Objects (GetObjectField r field)) u)
   objects_core (SetField primitive r field value) u = wrote_told s p q (the_object q t.0 r) (slot_place field) (Number value) known.same
   objects_core (SetObjectField r field value) u = wrote_told s p q (the_object q t.0 r) (slot_place field) (pointer (object_named q t.0 value)) known.same
 
@@ -500,7 +503,7 @@ module _ (s : StatedSetup) (p q : Parts) (t : Tid) (env : Option EnvId) (known :
       let c : Call = Strings (GetStringRegion r start n) in
       let o : ℕ = the_object q t.0 r in
       outside_brings s p q t c StringIndexOutOfBounds (is_outside start n (length (units_of s q o))) (region (map pos (units_of s q o)) start n) [] known.same
-          (present c refl u) (λ inside. nothing)
+      (present c refl u) (λ inside. nothing)
 
   -- an element is handed out where it is within
   element_core : (r : Ref) (index : ℤ) (b : Bool) → is_outside index (pos 1) (length_of s q (the_object q t.0 r)) ≡ b
@@ -527,7 +530,7 @@ module _ (s : StatedSetup) (p q : Parts) (t : Tid) (env : Option EnvId) (known :
       let c : Call = Arrays (GetArrayRegion element r start n) in
       let o : ℕ = the_object q t.0 r in
       outside_brings s p q t c ArrayIndexOutOfBounds (is_outside start n (length_of s q o)) (region (items_of s q o) start n) [] known.same (present c refl u)
-          (λ inside. nothing)
+      (λ inside. nothing)
   arrays_core (SetArrayRegion element r start values) u =
       let c : Call = Arrays (SetArrayRegion element r start values) in
       let o : ℕ = the_object q t.0 r in
@@ -536,7 +539,7 @@ module _ (s : StatedSetup) (p q : Parts) (t : Tid) (env : Option EnvId) (known :
       (λ inside. region_told s p q o (natural start) values known.same)
   arrays_core (NewObjectArray n class fill) u =
       makes_call (Arrays (NewObjectArray n class fill)) (Filled 3 (natural n) (pointer (object_named q t.0 fill))) refl refl u (λ told. told)
-          (answered_here (Arrays (NewObjectArray n class fill)) u)
+      (answered_here (Arrays (NewObjectArray n class fill)) u)
   arrays_core (GetObjectArrayElement r index) u = element_core r index (is_outside index (pos 1) (length_of s q (the_object q t.0 r))) refl u
   arrays_core (SetObjectArrayElement r index value) u =
       let c : Call = Arrays (SetObjectArrayElement r index value) in
@@ -552,26 +555,26 @@ module _ (s : StatedSetup) (p q : Parts) (t : Tid) (env : Option EnvId) (known :
       (λ enters. own_told s p q known t o (present c refl u) (must_here s p q t.0 r known u.alive u.not_null) enters)
   monitors_core (MonitorExit r) u =
       free_told s p q known t (the_object q t.0 r)
-          (mine q t.0 (the_object q t.0 r) (object_named q t.0 r) (the_named (names q t.0 r) false false u.alive u.not_null) u.owned)
+      (mine q t.0 (the_object q t.0 r) (object_named q t.0 r) (the_named (names q t.0 r) false false u.alive u.not_null) u.owned)
 
   buffers_core : (call : BuffersCall) → Unbroken s q t.0 env (Buffers call) → Core s p q t (Buffers call)
   buffers_core (GetArrayElements element r) u =
       let o : ℕ = the_object q t.0 r in
       copy_told s p q known t (Elements (Of element)) o (items_of s q o) refl (present (Buffers (GetArrayElements element r)) refl u)
-          (must_here s p q t.0 r known u.alive u.not_null)
+      (must_here s p q t.0 r known u.alive u.not_null)
   buffers_core (ReleaseArrayElements element r b mode) u =
       closing_told s p q t b (is_commit mode) (copied_back q b mode ++ q.heap) known
       (back_if (writes_back mode) (class_count s) p.heap q.heap (buffers.contents q.buffers b.maker.0 b.n) (buffer_named q b) known.same.heap)
-          (open_some _ (buffer_named q b) u.right_buffer)
+      (open_some _ (buffer_named q b) u.right_buffer)
   buffers_core (GetStringChars r) u =
       let o : ℕ = the_object q t.0 r in
       copy_told s p q known t Chars o (map pos (units_of s q o)) refl (present (Buffers (GetStringChars r)) refl u)
-          (must_here s p q t.0 r known u.alive u.not_null)
+      (must_here s p q t.0 r known u.alive u.not_null)
   buffers_core (ReleaseStringChars r b) u = back_told s p q known t b (open_some _ (buffer_named q b) u.right_buffer)
   buffers_core (GetStringUTFChars r) u =
       let o : ℕ = the_object q t.0 r in
       copy_told s p q known t UtfChars o (map pos (spelt (units_of s q o))) refl (present (Buffers (GetStringUTFChars r)) refl u)
-          (must_here s p q t.0 r known u.alive u.not_null)
+      (must_here s p q t.0 r known u.alive u.not_null)
   buffers_core (ReleaseStringUTFChars r b) u = back_told s p q known t b (open_some _ (buffer_named q b) u.right_buffer)
   buffers_core (GetPrimitiveArrayCritical r) u =
       let o : ℕ = the_object q t.0 r in

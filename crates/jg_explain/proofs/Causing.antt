@@ -26,7 +26,7 @@ causes_next s h n below =
 -- the same where a guard that has gone over those before it tells of it
 causes_more : (whole again : State) (n : ℕ) → n < length whole.journal → IsFront whole again n
     → causes whole.setup (oldest (n + 1) whole.journal)
-        ≡ causes whole.setup (oldest n whole.journal) ++ causes_at again.setup again.journal (slice_get (reverse whole.journal) n)
+    ≡ causes whole.setup (oldest n whole.journal) ++ causes_at again.setup again.journal (slice_get (reverse whole.journal) n)
 causes_more whole again n below front =
     let at = slice_get (reverse whole.journal) n in
     let told : causes_at again.setup again.journal at ≡ causes_at whole.setup (oldest n whole.journal) at =
@@ -74,7 +74,7 @@ few_more whole again n most below front few =
     let at = slice_get (reverse whole.journal) n in
     let one = at_most_one again.setup again.journal at in
     let long = ap length (causes_more whole again n below front)
-        ∙ length-append (causes whole.setup (oldest n whole.journal)) (causes_at again.setup again.journal at) in
+    ∙ length-append (causes whole.setup (oldest n whole.journal)) (causes_at again.setup again.journal at) in
     omega (arith, few, one, long)
 
 -- where a front has as many as are wanted, they are its
@@ -85,7 +85,7 @@ enough s h n most below full =
       | inl found ↦
           let later : List Entry = reverse (drop (suc n) (reverse h)) ++ found.0 ∷ [] in
           let split : h ≡ later ++ oldest n h =
-              oldest_before h n found.0 found.2 ∙ sym (append_assoc (reverse (drop (suc n) (reverse h))) (found.0 ∷ []) (oldest n h)) in
+          oldest_before h n found.0 found.2 ∙ sym (append_assoc (reverse (drop (suc n) (reverse h))) (found.0 ∷ []) (oldest n h)) in
           let first = front_first s later (oldest n h) in
           ap (λ l. take most (causes s l)) split ∙ ap (take most) first.is ∙ take_whole most (causes s (oldest n h)) first.rest full
       | inr past ↦ absurd (omega (arith, past.0, below, length-reverse h))
@@ -132,7 +132,7 @@ causes_within s [] = tt
 causes_within s (x ∷ h) =
     subst (λ n. AreWithin n (causes s (x ∷ h))) (add-one (length h))
     (within_more (length h) (causes s (x ∷ h))
-        (within_both (length h) (causes s h) (causes_of s h x (rule_in x.outcome)) (causes_within s h) (newest_within s h x (rule_in x.outcome))))
+    (within_both (length h) (causes s h) (causes_of s h x (rule_in x.outcome)) (causes_within s h) (newest_within s h x (rule_in x.outcome))))
 
 module _ (s : StatedSetup) (journal : List Entry) (n : ℕ) where
   abbrev known_at : ℕ → Condition → ℕ → Watch
@@ -143,7 +143,7 @@ module _ (s : StatedSetup) (journal : List Entry) (n : ℕ) where
   each_known place within (c ∷ cs) =
       let same : min n place ≡ place = omega (arith, within) in
       ap (λ i. known_at place c i ∷ map (watched s journal n) (map (unknown place) cs)) same
-          ∙ ap (λ l. known s journal place c ∷ l) (each_known place within cs)
+      ∙ ap (λ l. known s journal place c ∷ l) (each_known place within cs)
 
   pub every_known : (cs : List Cause) → AreWithin n cs → map (watched s journal n) (flat_map watches_of cs) ≡ flat_map (all_known s journal) cs
   every_known [] all = refl

@@ -130,7 +130,7 @@ module _ (s : StatedSetup) (h : List Entry) (legal : Legal s h) (c : Condition) 
   ungiven n within none =
       (unmade (after s c) h once n within (λ i below lacked. lacks_if i
       (λ held. clash (was_given s c h n) (given_later (i + 1) n (omega (arith, below)) within (given_there i (omega (arith, below, within)) lacked held).1)
-          none))).1
+      none))).1
 
   -- nor ever, where its number was given to something else
   pub given_away : (g n : ℕ) → g < n → n ≤ length h → GaveOther s h c g → turns_before s c h n ≡ still

@@ -63,7 +63,7 @@ ref_by_verdict s p u env call kind maker n (Some rule) y is handed = absurd (no_
 ref_by_verdict s p u env call kind maker n None y is handed =
     let a = answer s p u call in
     by_reference s p u call a.reply.value a.reply.warned a.object kind maker n (proper s p u call)
-        (sym (ap (λ (x : Entry). reference_of x.outcome) is) ∙ handed)
+    (sym (ap (λ (x : Entry). reference_of x.outcome) is) ∙ handed)
 
 buffer_by_verdict : (s : StatedSetup) (p : Parts) (u : Tid) (env : Option EnvId) (call : Call) (b : BufId) (verdict : Option Rule) (y : Entry)
     → y ≡ entry_by verdict (answer s p u call) u env call

@@ -29,7 +29,7 @@ module _ (s : StatedSetup) (journal : List Entry) where
   to_the_end n (x ∷ xs) =
       let same : min n n ≡ n = omega arith in
       ap (λ i. at_place n (presence x) i ∷ map (watched s journal n) (map (watch_of n) xs)) same
-          ∙ ap (λ l. known s journal n (presence x) ∷ l) (to_the_end n xs)
+      ∙ ap (λ l. known s journal n (presence x) ∷ l) (to_the_end n xs)
 
 pub all_left_known : (s : StatedSetup) (journal : List Entry) (n : ℕ) → n ≡ length journal → (xs : List Left)
     → map (watched s journal n) (map (watch_of n) xs) ≡ map (known_left s journal) xs

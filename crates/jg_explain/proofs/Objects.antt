@@ -48,7 +48,7 @@ weak_hands : (s : StatedSetup) (p : Parts) (u : Tid) (env : Option EnvId) (call 
     → object_named (after s y.tid.0 y.call y.outcome y.object p) t (To Weak maker n) ≡ Some o → reference_of y.outcome ≡ Some (To Weak maker n)
 weak_hands s p u env call t maker n (Some rule) y is none o some =
     absurd (no_some (object_named p t (To Weak maker n)) o none
-        (sym (ap (λ (x : Entry). object_named (after s x.tid.0 x.call x.outcome x.object p) t (To Weak maker n)) is) ∙ some))
+    (sym (ap (λ (x : Entry). object_named (after s x.tid.0 x.call x.outcome x.object p) t (To Weak maker n)) is) ∙ some))
 weak_hands s p u env call t maker n None y is none o some =
     let a = answer s p u call in
     let here = sym (ap (λ (x : Entry). object_named (after s x.tid.0 x.call x.outcome x.object p) t (To Weak maker n)) is) ∙ some in
@@ -71,13 +71,13 @@ pub object_by_its_answer : (s : StatedSetup) (h : List Entry) (x : Entry) (t : T
 object_by_its_answer s h x t Null legal none some = absurd cc
 object_by_its_answer s h x t (To Local maker n) legal none some =
     let same : (p : Parts) → holds p (NamesObject t (To Local maker n)) ≡ holds p (Names t (To Local maker n)) =
-        λ p. local_same (maker.0 == t.0) (live n (acts_of t.0 p.locals)) in
+    λ p. local_same (maker.0 == t.0) (live n (acts_of t.0 p.locals)) in
     made_by_its_answer s [] x h t (To Local maker n) legal (sym (same (parts s h)) ∙ none) (sym (same (parts s (x ∷ h))) ∙ some)
 object_by_its_answer s h x t (To Global maker n) legal none some =
     let same : (p : Parts) → holds p (NamesObject t (To Global maker n)) ≡ holds p (Names t (To Global maker n)) =
-        λ p. global_same (globals.strong p.globals maker.0 n) in
+    λ p. global_same (globals.strong p.globals maker.0 n) in
     made_by_its_answer s [] x h t (To Global maker n) legal (sym (same (parts s h)) ∙ none) (sym (same (parts s (x ∷ h))) ∙ some)
 object_by_its_answer s h x t (To Weak maker n) legal none some =
     let now = is_there (object_named (parts s (x ∷ h)) t.0 (To Weak maker n)) some in
     weak_hands s (parts s h) x.tid x.env x.call t.0 maker n (verdict s (parts s h) x.tid.0 x.env x.call) x legal.0
-        (None-if_not_some (object_named (parts s h) t.0 (To Weak maker n)) none) now.0 now.1
+    (None-if_not_some (object_named (parts s h) t.0 (To Weak maker n)) none) now.0 now.1

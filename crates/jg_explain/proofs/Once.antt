@@ -25,7 +25,7 @@ module _ (test : List Entry → Bool) (h : List Entry) (once : HoldsOnce test h)
       let was : test (oldest n h) ≡ false = none n (omega arith) in
       let is : test (oldest (n + 1) h) ≡ false = none (n + 1) (omega arith) in
       ap turned_by (sym (add-one n)) ∙ turns_more test h n below ∙ ap (λ b. turned (same b (test (oldest (n + 1) h))) n (turned_by n)) was
-          ∙ ap (λ b. turned (same false b) n (turned_by n)) is
+      ∙ ap (λ b. turned (same false b) n (turned_by n)) is
       ∙ never n (omega (arith, within)) (λ i le. none i (omega (arith, le)))
 
   -- nor while it went on as it was
@@ -67,7 +67,7 @@ module _ (test : List Entry → Bool) (h : List Entry) (once : HoldsOnce test h)
   begun : (a : ℕ) → a < length h → test (oldest a h) ≡ false → test (oldest (a + 1) h) ≡ true → turned_by (a + 1) ≡ record { latest = Some a; earlier = None }
   begun a below lacked held =
       turns_more test h a below ∙ ap (λ b. turned (same b (test (oldest (a + 1) h))) a (turned_by a)) lacked
-          ∙ ap (λ b. turned (same false b) a (turned_by a)) held
+      ∙ ap (λ b. turned (same false b) a (turned_by a)) held
       ∙ ap (λ ts. turned false a ts) (never a (omega (arith, below)) (not_before a below lacked held))
 
   -- what holds has turned where it came to hold
@@ -77,7 +77,7 @@ module _ (test : List Entry → Bool) (h : List Entry) (once : HoldsOnce test h)
       let low : a + 1 ≤ n = omega (arith, before) in
       let more : a + 1 + (n - (a + 1)) ≡ n = omega (arith, low) in
       ap turned_by (sym more) ∙ stays true (a + 1) (n - (a + 1)) (omega (arith, more, within))
-          (λ i least le. since_then a n within held still_held i least (omega (arith, le, more)))
+      (λ i least le. since_then a n within held still_held i least (omega (arith, le, more)))
       ∙ begun a (omega (arith, before, within)) lacked held
 
   -- what holds no more has turned where it came to hold, and where it ceased
@@ -88,9 +88,9 @@ module _ (test : List Entry → Bool) (h : List Entry) (once : HoldsOnce test h)
       let more : b + 1 + (n - (b + 1)) ≡ n = omega (arith, last) in
       let below : b < length h = omega (arith, last, within) in
       ap turned_by (sym more) ∙ stays false (b + 1) (n - (b + 1)) (omega (arith, more, within))
-          (λ i least le. no_more b n within held_still ceased i least (omega (arith, le, more)))
+      (λ i least le. no_more b n within held_still ceased i least (omega (arith, le, more)))
       ∙ turns_more test h b below ∙ ap (λ c. turned (same c (test (oldest (b + 1) h))) b (turned_by b)) held_still
-          ∙ ap (λ c. turned (same true c) b (turned_by b)) ceased
+      ∙ ap (λ c. turned (same true c) b (turned_by b)) ceased
       ∙ ap (λ ts. turned false b ts) (holding a b first (omega (arith, below)) lacked held held_still)
 
   -- where no entry brings it about, it never holds

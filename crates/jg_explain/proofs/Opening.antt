@@ -56,7 +56,7 @@ module _ (s : StatedSetup) (p : Parts) (t : Tid) (m n : ℕ) (b : Buffer) (none 
   silent call none_opened some =
       let e = if_effective (is_effective (answer s p t call).reply.value) (call_buffers s p t.0 call) in
       absurd (clash (opened (now call) m n) b
-          (closed_still m n e p.buffers (opens_none_if (is_effective (answer s p t call).reply.value) (call_buffers s p t.0 call) none_opened) none) some)
+      (closed_still m n e p.buffers (opens_none_if (is_effective (answer s p t call).reply.value) (call_buffers s p t.0 call) none_opened) none) some)
 
   by_number : (k : Bool) → is_same m n t.0 (next_buffer p t.0) ≡ k → (c : Buffer) → (if k then Some c else opened p.buffers m n) ≡ Some b
       → buffer_in (Lent (record { maker = t; n = next_buffer p t.0 })) ≡ Some (record { maker = record { 0 = m }; n = n })
@@ -64,7 +64,7 @@ module _ (s : StatedSetup) (p : Parts) (t : Tid) (m n : ℕ) (b : Buffer) (none 
       let maker : t.0 ≡ m = grind (arith, nat_tests, same) in
       let number : next_buffer p t.0 ≡ n = grind (arith, nat_tests, same) in
       ap (λ (k : ℕ). Some (record { maker = record { 0 = k }; n = next_buffer p t.0 })) maker
-          ∙ ap (λ (k : ℕ). Some (record { maker = record { 0 = m }; n = k })) number
+      ∙ ap (λ (k : ℕ). Some (record { maker = record { 0 = m }; n = k })) number
   by_number false other c some = absurd (clash (opened p.buffers m n) b none some)
 
   by_buffers : (call : BuffersCall) → opened (now (Buffers call)) m n ≡ Some b → LendsIt (Buffers call)

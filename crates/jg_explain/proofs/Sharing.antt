@@ -83,8 +83,10 @@ one_told s h told denials i d rest own later start old new below are item rest_i
             later_is = later_is;
             so_far = so_far;
             told_is = told_is;
-          } in
-          (later_are s h told i c found.1 found.3 d rest own later start old new known, new_is s h told i c found.1 found.3 d rest own later start old new
-              known)
+          } in (
+            later_are s h told i c found.1 found.3 d rest own later start old new known,
+            new_is s h told i c found.1 found.3 d rest own later start old new
+                known,
+          )
       | inr past ↦ absurd (omega (arith, past.0, below, long))
     ]

@@ -32,7 +32,7 @@ module _ (s : StatedSetup) (h : List Entry) (place : ℕ) (ds : List Denial) (d 
       let is : d ≡ denial_of c = first ∙ ap (λ l. get_or l 0 d) denials in
       let all : items ≡ all_known s h c =
       known ∙ ap (map (watched s h place)) watches ∙ every_known s h place (c ∷ []) within ∙ flat_map-cons (all_known s h) c [] ∙ append-nil (all_known s h c)
-          in
+      in
       (c, refl, ap (λ x. x.rule) is, ap (λ x. x.breach) is, all)
   by_cause (c ∷ b ∷ cs) few within some denials first watches known = absurd (omega (arith, few))
 
@@ -42,4 +42,4 @@ pub one_explained : (s : StatedSetup) (h : List Entry) (place : ℕ) (ds : List 
     → (c : Cause) × (cause_at s h place ≡ c ∷ []) × (d.rule ≡ c.rule) × (d.breach ≡ c.breach) × (items ≡ all_known s h c)
 one_explained s h place ds d ws items below some denials first watches known =
     by_cause s h place ds d ws items (cause_at s h place) (at_most_one s (oldest place h) (slice_get (reverse h) place)) (cause_within s h place below) some
-        denials first watches known
+    denials first watches known

@@ -27,7 +27,7 @@ module _ (s : StatedSetup) (h : List Entry) (n : ℕ) (x : Entry) (below : n < l
   }
   by_test c false cannot old =
       let still : was s c.condition h (n + 1) ≡ was s c.condition h n =
-          ap (after s c.condition) (oldest_more h n x at) ∙ unturned s (oldest n h) x c.condition cannot in
+      ap (after s c.condition) (oldest_more h n x at) ∙ unturned s (oldest n h) x c.condition cannot in
       record {
         holds = old.holds ∙ sym still;
         turns = old.turns ∙ sym (turns_more (after s c.condition) h n below
@@ -38,4 +38,4 @@ module _ (s : StatedSetup) (h : List Entry) (n : ℕ) (x : Entry) (below : n < l
   all_asked_steady cs old =
       All-map (IsSteady s h (n + 1)) (asked_steady s (as_it_was (n + 1) h) x n) cs
       (All-weaker (IsSteady s h n) (λ c. IsSteady s h (n + 1) (asked_steady s (as_it_was (n + 1) h) x n c)) (λ c is. by_test c (can_turn c.condition x) refl is)
-          cs old)
+      cs old)

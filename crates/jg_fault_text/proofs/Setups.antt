@@ -19,7 +19,7 @@ pub at_added : {T E : Type 0} (r : Result T E) (front words old : List ℕ) {mid
 at_added (Err _) front words old first second last = tt
 at_added (Ok _) front words old first second last =
     last ∙ ap (λ it. it ++ codes "\n") (second ∙ ap (λ it. it ++ words) first ∙ append_assoc old (position_text front) words)
-        ∙ append_assoc old (position_text front ++ words) (codes "\n")
+    ∙ append_assoc old (position_text front ++ words) (codes "\n")
 
 pub position_is : (front : List ℕ) (line column : ℕ) → line ≡ line_behind front → column ≡ column_behind front
     → codes "line " ++ decimal line ++ codes ", column " ++ decimal column ++ codes ": " ≡ position_text front

@@ -56,7 +56,7 @@ pub primitive_there : (s : StatedSetup) (rows : TableRows) (p : Parts) (element 
 primitive_there s rows p element named stand alive there right =
     is_there s rows p (unwrap_or (object_in named) 0) (array_class element) stand
     (eqb-true (class_of s p (unwrap_or (object_in named) 0)) (array_class element)
-        (first_is_of s p (ArrayOf element) named false false false alive there right)) (other_class element)
+    (first_is_of s p (ArrayOf element) named false false false alive there right)) (other_class element)
 
 pub get_region_due : (s : StatedSetup) (rows : TableRows) (t : ℕ) (element : Primitive) (r : Ref) (start n : ℤ)
     (due : IsDue s rows t (Arrays (GetArrayRegion element r start n)))

@@ -65,7 +65,7 @@ pub array_made : (s : StatedSetup) (rows : TableRows) (p : Parts) (named : Named
 array_made s rows p named stand alive there right =
     let o : ℕ = unwrap_or (object_in named) 0 in
     let is = within (nat_le 4 (class_of s p o)) (nat_le (class_of s p o) 9) (class_of s p o) refl refl
-        (first_is_of s p PrimitiveArray named false false false alive there right) in
+    (first_is_of s p PrimitiveArray named false false false alive there right) in
     made_there s rows p o stand (omega (arith, is.0))
 
 -- a reference that names an object isn't null
@@ -161,7 +161,7 @@ pub pinned_there : (s : StatedSetup) (rows : TableRows) (p : Parts) (b : BufId) 
 pinned_there s rows p b info stand lent is pins =
     let it = open_as p b info is in
     subst (PinnedThere rows) it.told
-        (array_pinned s rows p it.buffer stand (lent b.maker.0 b.n it.buffer it.is_open) (ap (λ (i : Info). i.family) it.told ∙ pins))
+    (array_pinned s rows p it.buffer stand (lent b.maker.0 b.n it.buffer it.is_open) (ap (λ (i : Info). i.family) it.told ∙ pins))
 
 -- ---- a copy that is released
 

@@ -172,7 +172,7 @@ pub record After (q : Parts) (t : ℕ) : Type 0 where
 threads_few : (s : StatedSetup) (p : Parts) (t : ℕ) (call : Call) → IsOrdinary p → length (map (threads.by t) (call_threads s p t call) ++ p.threads) < 2 ^ 63
 threads_few s p t call o =
     let few : length (map (threads.by t) (call_threads s p t call) ++ p.threads) ≤ length p.threads + 1 =
-        simp (length-append, length-map) (omega (arith, call_threads-le s p t call)) in
+    simp (length-append, length-map) (omega (arith, call_threads-le s p t call)) in
     omega (arith, few, o.few_threads)
 
 -- of a call that opens no buffer
@@ -293,7 +293,7 @@ settled_none : (s : StatedSetup) (home : Option ℕ) (p : Parts) (t : Tid) (call
     → IsProper s p t call value warned o
     → is_effective value ≡ false
     → settled None t.0 (saying_of value) o p
-        ≡ settled home t.0 (record { value = value; warned = warned; noticed = false }) o (done_if (is_effective value) s t.0 call p)
+    ≡ settled home t.0 (record { value = value; warned = warned; noticed = false }) o (done_if (is_effective value) s t.0 call p)
 settled_none s home p t call (Threw kind) warned None own none = absurd own
 settled_none s home p t call (Threw kind) warned (Some o) own none = rw own.2 refl
 settled_none s home p t call Busy warned o own none = rw own.1 refl
@@ -305,13 +305,13 @@ pub stand_none : (s : StatedSetup) (rows : TableRows) (p : Parts) (t : Tid) (cal
 stand_none s rows p t call given is none stand =
     let own : ProperAnswer s p t call given = rw is (proper s p t call) in
     subst (λ (q : Parts). TablesStand s rows q)
-        (settled_none s (home_of s (native_class s p t.0 call)) p t call given.reply.value given.reply.warned given.object own none) stand
+    (settled_none s (home_of s (native_class s p t.0 call)) p t call given.reply.value given.reply.warned given.object own none) stand
 
 settled_globals : (s : StatedSetup) (home : Option ℕ) (p : Parts) (t : Tid) (call : Call) (value : Value) (warned : Bool) (o : Option ObjId)
     → IsProper s p t call value warned o
     → makes_global value ≡ true
     → settled None t.0 (saying_of value) o p
-        ≡ settled home t.0 (record { value = value; warned = warned; noticed = false }) o (done_if (is_effective value) s t.0 call p)
+    ≡ settled home t.0 (record { value = value; warned = warned; noticed = false }) o (done_if (is_effective value) s t.0 call p)
 settled_globals s home p t call (Reference r) warned None own global = absurd own
 settled_globals s home p t call (Reference Null) warned (Some o) own global = absurd own
 settled_globals s home p t call (Reference (To Local maker n)) warned (Some o) own global = absurd cc
@@ -327,7 +327,7 @@ pub stand_global : (s : StatedSetup) (rows : TableRows) (p : Parts) (t : Tid) (c
 stand_global s rows p t call given is global stand =
     let own : ProperAnswer s p t call given = rw is (proper s p t call) in
     subst (λ (q : Parts). TablesStand s rows q)
-        (settled_globals s (home_of s (native_class s p t.0 call)) p t call given.reply.value given.reply.warned given.object own global) stand
+    (settled_globals s (home_of s (native_class s p t.0 call)) p t call given.reply.value given.reply.warned given.object own global) stand
 
 pub stand_done : (s : StatedSetup) (rows : TableRows) (home : Option ℕ) (p : Parts) (t : Tid) (call : Call) (given : Answer)
     → warning given.reply.warned home ≡ warning given.reply.warned (home_of s (native_class s p t.0 call))

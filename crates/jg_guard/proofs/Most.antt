@@ -109,7 +109,7 @@ buffer_equal b c is =
 buffers_once : (p : Parts) (m n : ℕ) → CountsBuffers p m → CountsBuffers p n → m ≡ n
 buffers_once p m n (bs, lists, long) (cs, others, same) =
     sym long ∙ as_long (λ b c. is_same c.maker.0 c.n b.maker.0 b.n) buffer_itself buffer_equal bs cs (λ b. lists b.maker.0 b.n ∙ sym (others b.maker.0 b.n))
-        ∙ same
+    ∙ same
 
 objects_once : (s : StatedSetup) (p : Parts) (m n : ℕ) → CountsObjects s p m → CountsObjects s p n → m ≡ n
 objects_once s p m n first second = first ∙ sym second

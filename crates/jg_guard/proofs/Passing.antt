@@ -114,7 +114,7 @@ pub denied_sound : (state : State) (journal : List Entry) (spare : ℕ) (rows : 
     → IsSound (record state { journal = journal; spare = spare }) rows
 denied_sound state journal spare rows t env call rule s room denied is =
     sound_after state journal spare (denied_entry t env call rule) rows rows s room is
-        (entry_denied state.setup (parts state.setup state.journal) t env call rule denied) s.tables
+    (entry_denied state.setup (parts state.setup state.journal) t env call rule denied) s.tables
 
 same_answer : (a b : Answer) → a.reply.value ≡ b.reply.value → a.reply.warned ≡ b.reply.warned → a.reply.noticed ≡ b.reply.noticed → a.object ≡ b.object → a ≡ b
 same_answer a b value warned noticed object =
@@ -163,7 +163,7 @@ answered_due A state rows t env call given again held s passed value warned noti
 pub entry_taken : (A : Type 0) (state : State) (t : Tid) (env : Option EnvId) (call : Call) (given : Answer) (held : Findings A) (b : Bool)
     → IsPassed A state t env call given held
     → b ≡ (makes_local given.reply.value
-        && crowded (acts_of t.0 (passed_on state.setup t.0 call given.reply given.object (parts state.setup state.journal)).locals))
+    && crowded (acts_of t.0 (passed_on state.setup t.0 call given.reply given.object (parts state.setup state.journal)).locals))
     → passed_entry t env call (with_notice b given) ≡ entry_at state.setup (parts state.setup state.journal) t env call
 entry_taken A state t env call given held b passed told =
     let p : Parts = parts state.setup state.journal in

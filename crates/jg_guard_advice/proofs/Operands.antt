@@ -97,10 +97,10 @@ module _ (n : ℕ) (s : StatedSetup) (t : Tid) (f : ℕ) (xs ys : List Argument)
         ∙ ap (λ b. if same_name (t.0, depth p t.0) q then doing_after (slice_get functions f) b (source n t f) (doing q h) else doing q h) throws_same;
     written = λ q. stands.written q
         ∙ (ap (λ r. if commits q r then None
-            else (if is_named q (written_by (slice_get functions f) xs) && is_copy p (written_by (slice_get functions f) xs) then Some (source n t f)
-            else written q h)) releases_same
+        else (if is_named q (written_by (slice_get functions f) xs) && is_copy p (written_by (slice_get functions f) xs) then Some (source n t f)
+        else written q h)) releases_same
         ∙ ap (λ b. if commits q (released_by (slice_get functions f) ys) then None
-            else (if is_named q b && is_copy p b then Some (source n t f) else written q h)) writes_same);
+        else (if is_named q b && is_copy p b then Some (source n t f) else written q h)) writes_same);
     committed = λ q. stands.committed q ∙ ap (λ r. if commits q r then Some (source n t f) else committed q h) releases_same;
     once = stands.once;
     entered = stands.entered;

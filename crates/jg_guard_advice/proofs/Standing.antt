@@ -56,7 +56,7 @@ module _ (s : StatedSetup) (h : List Entry) (t : Tid) (env : Option EnvId) (call
   passed_by : (v : Option Rule) (a : Answer) (m : Moment) → v ≡ None → IsQuestion s p (length h + 1) t call m
       → AreMoments s (entry_by v a t env call ∷ h) (with_facts (length h + 1) (parts s (entry_by v a t env call ∷ h))
       (reverse (outcome_facts s p (entry_by v a t env call).tid (entry_by v a t env call).call (entry_by v a t env call).outcome
-          (entry_by v a t env call).object)) (m ∷ before))
+      (entry_by v a t env call).object)) (m ∷ before))
   passed_by None a m is asked = (before, are, (m, asked, refl))
   passed_by (Some rule) a m is asked = absurd (let clash : Some rule ≡ None = is in cc)
 
@@ -64,7 +64,7 @@ module _ (s : StatedSetup) (h : List Entry) (t : Tid) (env : Option EnvId) (call
   pub passed : (m : Moment) → verdict s p t.0 env call ≡ None → IsQuestion s p (length h + 1) t call m
       → AreMoments s (entry_at s p t env call ∷ h) (with_facts (length h + 1) (parts s (entry_at s p t env call ∷ h))
       (reverse (outcome_facts s p (entry_at s p t env call).tid (entry_at s p t env call).call (entry_at s p t env call).outcome
-          (entry_at s p t env call).object)) (m ∷ before))
+      (entry_at s p t env call).object)) (m ∷ before))
   passed m is asked = passed_by (verdict s p t.0 env call) (answer s p t call) m is asked
 
   denied_by : (v : Option Rule) (a : Answer) (rule : Rule) → v ≡ Some rule → AreMoments s (entry_by v a t env call ∷ h) before

@@ -20,7 +20,7 @@ entry_so whole before again asked_by told_by journal x seen old asked new again_
     let first : asked_by ≡ whole = asked_is ∙ again_is in
     let known : Foresees told_by p x.tid x.call seen =
     subst (λ (s : StatedSetup). Foresees s p x.tid x.call seen) (first ∙ sym told_is)
-        (subst (λ (q : Parts). Foresees asked_by q x.tid x.call seen) same foreseen) in (
+    (subst (λ (q : Parts). Foresees asked_by q x.tid x.call seen) same foreseen) in (
       asked,
       subst (λ (s : StatedSetup). AddsQuestion s p x old asked) first (subst (λ (q : Parts). AddsQuestion asked_by q x old asked) same question),
       subst (λ (s : StatedSetup). AddsTold s p x asked new) told_is (tells p known),

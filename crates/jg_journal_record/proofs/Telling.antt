@@ -26,7 +26,7 @@ records_tell_facts s (x ∷ h) text (front, before, (asked, (question, is, (own,
     let (lines, front_is, told) = records_tell_facts s h front before in
     let new : List Fact = outcome_facts s (parts s h) x.tid x.call x.outcome x.object in
     let with_question : AreLines s (lines ++ question ∷ []) (front ++ (own ++ 10 ∷ [])) =
-        lines_append s lines (question ∷ []) front (own ++ 10 ∷ []) front_is (own, [], spelt, refl, refl) in
+    lines_append s lines (question ∷ []) front (own ++ 10 ∷ []) front_is (own, [], spelt, refl, refl) in
     let with_facts : AreLines s ((lines ++ question ∷ []) ++ facts) ((front ++ (own ++ 10 ∷ [])) ++ more) =
     lines_append s (lines ++ question ∷ []) facts (front ++ (own ++ 10 ∷ [])) more with_question are in
     let text_is : text ≡ (front ++ (own ++ 10 ∷ [])) ++ more = rest ∙ ap (λ (t : List ℕ). t ++ more) first in
@@ -35,7 +35,7 @@ records_tell_facts s (x ∷ h) text (front, before, (asked, (question, is, (own,
       subst (λ (t : List ℕ). AreLines s ((lines ++ question ∷ []) ++ facts) t) (sym text_is) with_facts,
       told_append (lines ++ question ∷ []) facts
           ∙ (ap (λ (t : List Fact). t ++ facts_told facts)
-              (told_append lines (question ∷ []) ∙ (ap (λ (t : List Fact). facts_told lines ++ t) silent ∙ append-nil (facts_told lines)))
+          (told_append lines (question ∷ []) ∙ (ap (λ (t : List Fact). facts_told lines ++ t) silent ∙ append-nil (facts_told lines)))
           ∙ (ap (λ (t : List Fact). facts_told lines ++ t) (tell_so x.tid facts (reverse new) tell)
           ∙ (ap (λ (t : List Fact). t ++ reverse new) told ∙ sym (reverse-append new (facts_of s h))))),
     )

@@ -80,6 +80,10 @@ none_told s by start = record { lines = []; facts = []; own = []; are = refl; te
 -- all is told
 pub all_told : (s : StatedSetup) (by : Tid) (start : List ℕ) (told : List Fact) (text : List ℕ) → IsTelling s by start told [] text
     → AddsFacts s by told start text
-all_told s by start told text telling =
-    (telling.lines, subst (λ (t : List Fact). Tell by telling.lines t) (sym (telling.all ∙ append-nil telling.facts)) telling.tell, telling.own, telling.are,
-        telling.is)
+all_told s by start told text telling = (
+  telling.lines,
+  subst (λ (t : List Fact). Tell by telling.lines t) (sym (telling.all ∙ append-nil telling.facts)) telling.tell,
+  telling.own,
+  telling.are,
+  telling.is,
+)

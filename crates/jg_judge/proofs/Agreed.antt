@@ -1117,5 +1117,5 @@ each_rule s p t env call row is agree NotLinked = rw (is.effect) agree.linked
 pub judged_as_written : JudgedAsWritten
 judged_as_written s p t env call all =
     same_found (λ rule. broken rule written_bounds s p t env (row_for (fun_of call)) (arguments_of s p t call)) (λ rule. rules.broken rule s p t env call)
-        rules_in_order
+    rules_in_order
     (each_rule s p t env call (row_for (fun_of call)) (row_is (fun_of call)) (agrees s p t call all))

@@ -48,7 +48,7 @@ asked bounds s p t env row xs given is suit =
     let named : Named = names p t (first_reference xs) in
     ap rule_of (is ∙ ap (λ b. if b then by_rule named (first_broken bounds s p t env row xs) else Misfit) suit)
     ∙ (of_rule named (first_broken bounds s p t env row xs)
-        ∙ of_culprit (with_culprit bounds s p t row.takes xs) (verdict bounds s p t env row xs) (λ rule. refl))
+    ∙ of_culprit (with_culprit bounds s p t row.takes xs) (verdict bounds s p t env row xs) (λ rule. refl))
 
 -- the question that a call is, of its function's row and its operands
 pub judged : (s : StatedSetup) (p : Parts) (t : ℕ) (env : Option EnvId) (call : Call) (row : Columns) (found : Option Columns) (xs : List Argument)

@@ -43,7 +43,7 @@ named_first : (named : Rule → Broken) (a b c d : Bool) (later : Option Rule) (
     → named Pending ≡ by_no_operand Pending
     → Some rule ≡ (if a then Some WrongThread else if b then Some Detached else if c then Some InCritical else if d then Some Pending else None)
     → Some (by_no_operand rule)
-        ≡ option_map named (if a then Some WrongThread else if b then Some Detached else if c then Some InCritical else if d then Some Pending else later)
+    ≡ option_map named (if a then Some WrongThread else if b then Some Detached else if c then Some InCritical else if d then Some Pending else later)
 named_first named true b c d later rule na nb nc nd is = ap (option_map by_no_operand) is ∙ ap Some (sym na)
 named_first named false true c d later rule na nb nc nd is = ap (option_map by_no_operand) is ∙ ap Some (sym nb)
 named_first named false false true d later rule na nb nc nd is = ap (option_map by_no_operand) is ∙ ap Some (sym nc)
@@ -56,5 +56,5 @@ pub by_its_caller : (bounds : Bounds) (s : StatedSetup) (p : Parts) (t : ℕ) (e
 by_its_caller bounds s p t env row xs rule is =
     named_first (with_culprit bounds s p t row.takes xs) (wrong_thread t env row) (detached p t env row) (in_critical p t row) (while_pending p t row)
     (find (λ r. broken r bounds s p t env row xs)
-        (ForeignLocal ∷ DeadReference ∷ WrongRefKind ∷ NullReference ∷ WrongType ∷ BadField ∷ BadBuffer ∷ BadArgument ∷ Pinned ∷ NotOwner ∷ BadFrame
+    (ForeignLocal ∷ DeadReference ∷ WrongRefKind ∷ NullReference ∷ WrongType ∷ BadField ∷ BadBuffer ∷ BadArgument ∷ Pinned ∷ NotOwner ∷ BadFrame
     ∷ NoNativeAccess ∷ NotLinked ∷ [])) rule refl refl refl refl is

@@ -5,8 +5,16 @@ use Rattle.jg_judge.specs.Faults.{Faults, Places, first_of, of_operands, or_here
 
 -- one operand more: by the rule that it breaks first
 merged : (n : ℕ) (a b c d e f g : Option ℕ) (s t u v w x y : Bool)
-    → with_rule (of_operands (record { foreign_local = a; dead_reference = b; null_reference = c; wrong_type = d; bad_field = e; bad_buffer = f; bad_argument =
-        g }) false)
+    → with_rule (of_operands (record {
+      foreign_local = a;
+      dead_reference = b;
+      null_reference = c;
+      wrong_type = d;
+      bad_field = e;
+      bad_buffer = f;
+      bad_argument =
+          g;
+    }) false)
     (first_of (record { foreign_local = s; dead_reference = t; null_reference = u; wrong_type = v; bad_field = w; bad_buffer = x; bad_argument = y })) n
     ≡ of_operands (record {
       foreign_local = or_here a n s;
@@ -91,7 +99,7 @@ one_kept places faults n =
 -- the reference that is deleted stands first
 with_kind : (a b c d e f g : Option ℕ)
     → Some (sooner (of_operands
-        (record { foreign_local = a; dead_reference = b; null_reference = c; wrong_type = d; bad_field = e; bad_buffer = f; bad_argument = g }) false)
+    (record { foreign_local = a; dead_reference = b; null_reference = c; wrong_type = d; bad_field = e; bad_buffer = f; bad_argument = g }) false)
     (record { rule = WrongRefKind; operand = Some 0 }))
     ≡ of_operands (record { foreign_local = a; dead_reference = b; null_reference = c; wrong_type = d; bad_field = e; bad_buffer = f; bad_argument = g }) true
 with_kind (Some i) b c d e f g = refl

@@ -29,8 +29,16 @@ pub record AreSoFar (s : StatedSetup) (p : Parts) (t : ℕ) (beside : Beside) (t
   pub named : option_or first (first_named p t rest) ≡ first_named p t xs
 
 abbrev no_places : Places
-no_places = record { foreign_local = None; dead_reference = None; null_reference = None; wrong_type = None; bad_field = None; bad_buffer = None; bad_argument =
-    None }
+no_places = record {
+  foreign_local = None;
+  dead_reference = None;
+  null_reference = None;
+  wrong_type = None;
+  bad_field = None;
+  bad_buffer = None;
+  bad_argument =
+      None;
+}
 
 pub at_first : (s : StatedSetup) (p : Parts) (t : ℕ) (beside : Beside) (takes : List Takes) (xs : List Argument)
     → AreSoFar s p t beside takes xs None None 0 takes xs
@@ -66,13 +74,13 @@ step : (s : StatedSetup) (p : Parts) (t : ℕ) (beside : Beside) (all : List Tak
     → AreSoFar s p t beside all xs next later_broken (n + 1) (if is_last takes then takes ∷ more else more) later
 step s p t beside all xs first next seen broken later_broken rule n takes x wanted more rest later wanted_is rest_is seen_is rule_is next_is broken_is so_far =
     subst (λ b. AreSoFar s p t beside all xs next b (n + 1) (if is_last takes then takes ∷ more else more) later)
-        (sym (broken_is ∙ ap (λ r. with_rule broken r n) rule_is))
+    (sym (broken_is ∙ ap (λ r. with_rule broken r n) rule_is))
     (subst (λ f. AreSoFar s p t beside all xs f (with_rule broken (first_of (faults_of s p t beside takes x)) n) (n + 1)
-        (if is_last takes then takes ∷ more else more) later)
+    (if is_last takes then takes ∷ more else more) later)
     (sym (next_is ∙ ap (option_or first) seen_is))
     (one_seen s p t beside all xs first broken n takes x more later
     (subst (λ w. AreSoFar s p t beside all xs first broken n w (x ∷ later)) wanted_is
-        (subst (λ r. AreSoFar s p t beside all xs first broken n wanted r) rest_is so_far))))
+    (subst (λ r. AreSoFar s p t beside all xs first broken n wanted r) rest_is so_far))))
 
 pub one_more : (s : StatedSetup) (p : Parts) (t : ℕ) (beside : Beside) (all : List Takes) (xs : List Argument) (first next seen : Option Named)
     (broken later_broken : Option Broken) (rule : Option Rule)
@@ -84,7 +92,7 @@ one_more s p t beside all xs first next seen broken later_broken rule n takes x 
     so_far last =
     subst (λ b. AreSoFar s p t beside all xs next later_broken (n + 1) (if b then takes ∷ more else more) later) last
     (step s p t beside all xs first next seen broken later_broken rule n takes x wanted more rest later wanted_is rest_is seen_is rule_is next_is broken_is
-        so_far)
+    so_far)
 
 pub one_more_argument : (s : StatedSetup) (p : Parts) (t : ℕ) (beside : Beside) (all : List Takes) (xs : List Argument) (first next seen : Option Named)
     (broken later_broken : Option Broken)
@@ -97,7 +105,7 @@ one_more_argument s p t beside all xs first next seen broken later_broken rule n
     subst (λ w. AreSoFar s p t beside all xs next later_broken (n + 1) w later) (sym wanted_is)
     (subst (λ b. AreSoFar s p t beside all xs next later_broken (n + 1) (if b then takes ∷ more else more) later) last
     (step s p t beside all xs first next seen broken later_broken rule n takes x wanted more rest later wanted_is rest_is seen_is rule_is next_is broken_is
-        so_far))
+    so_far))
 
 -- what the first reference names, null where there is none
 first_names : (p : Parts) (t : ℕ) (xs : List Argument) → unwrap_or (first_named p t xs) Null ≡ names p t (first_reference xs)
@@ -128,5 +136,5 @@ all_seen bounds s p t takes xs first broken n named wanted rest so_far is_end na
       named = named_is ∙ (ap (λ x. unwrap_or x Null) (sym (or_none first) ∙ done.named) ∙ first_names p t xs);
       broken = done.broken_is ∙ ap (λ places. of_operands places false)
           (no_more s p t (beside_of bounds p xs) done.places (places_from s p t (beside_of bounds p xs) 0 (paired takes xs)) n
-              (paired wanted []) refl done.placed);
+          (paired wanted []) refl done.placed);
     }

@@ -36,10 +36,10 @@ of_faults faults is_wrong_kind =
 
 nested : (a b c d e f g h : Bool) (later : Option Rule)
     → (if a then Some ForeignLocal else if b then Some DeadReference else if c then Some WrongRefKind else if d then Some NullReference else if e
-        then Some WrongType
+    then Some WrongType
     else if f then Some BadField else if g then Some BadBuffer else if h then Some BadArgument else later)
     ≡ option_or (if a then Some ForeignLocal else if b then Some DeadReference else if c then Some WrongRefKind else if d then Some NullReference else if e
-        then Some WrongType
+    then Some WrongType
     else if f then Some BadField else if g then Some BadBuffer else if h then Some BadArgument else None) later
 nested true b c d e f g h later = refl
 nested false true c d e f g h later = refl
@@ -56,7 +56,7 @@ after_four : (bounds : Bounds) (s : StatedSetup) (p : Parts) (t : ℕ) (env : Op
     → wrong_thread t env row ≡ false → detached p t env row ≡ false → in_critical p t row ≡ false → while_pending p t row ≡ false
     → verdict bounds s p t env row xs
     ≡ option_or (of_faults (faults_in s p t (record { bounds = bounds; via = first_reference xs; info = buffer_meant p (first_buffer xs) })
-        (paired row.takes xs))
+    (paired row.takes xs))
     (wrong_kind row.effect (first_reference xs))) (of_effect s p t row.effect (first_reference xs) xs)
 after_four bounds s p t env row xs own attached outside calm =
     let beside : Beside = record { bounds = bounds; via = first_reference xs; info = buffer_meant p (first_buffer xs) } in
@@ -104,7 +104,7 @@ operands_named bounds s p t takes xs wrong =
     let x : List (Takes × Argument) = paired takes xs in
     let found = placed (with_culprit bounds s p t takes xs) (first_that s p t beside ForeignLocal 0 x) (first_that s p t beside DeadReference 0 x)
     (first_that s p t beside NullReference 0 x) (first_that s p t beside WrongType 0 x) (first_that s p t beside BadField 0 x)
-        (first_that s p t beside BadBuffer 0 x)
+    (first_that s p t beside BadBuffer 0 x)
     (first_that s p t beside BadArgument 0 x) wrong refl refl refl refl refl refl refl refl in
     found ∙ rw (
       there_is_first s p t beside ForeignLocal 0 x,
@@ -120,9 +120,9 @@ effect_named : (named : Rule → Broken) (a b c d e : Bool)
     → named Pinned ≡ with_operand Pinned → named NotOwner ≡ with_operand NotOwner → named BadFrame ≡ with_operand BadFrame
     → named NoNativeAccess ≡ with_operand NoNativeAccess → named NotLinked ≡ with_operand NotLinked
     → option_map named (if a then Some Pinned else if b then Some NotOwner else if c then Some BadFrame else if d then Some NoNativeAccess else if e
-        then Some NotLinked else None)
+    then Some NotLinked else None)
     ≡ option_map with_operand (if a then Some Pinned else if b then Some NotOwner else if c then Some BadFrame else if d then Some NoNativeAccess else if e
-        then Some NotLinked else None)
+    then Some NotLinked else None)
 effect_named named true b c d e na nb nc nd ne = ap Some na
 effect_named named false true c d e na nb nc nd ne = ap Some nb
 effect_named named false false true d e na nb nc nd ne = ap Some nc
@@ -153,5 +153,5 @@ broken_after_four bounds s p t env row xs passes =
     ∙ (ap (λ b. option_or b (option_map named later)) (sym (operands_named bounds s p t row.takes xs (wrong_kind row.effect r)))
     ∙ ap (option_or (of_operands (places_from s p t beside 0 (paired row.takes xs)) (wrong_kind row.effect r)))
     (effect_named named (pinned p row.effect r) (not_owner p t row.effect r) (bad_frame p t row.effect) (no_access s p t row.effect r xs)
-        (not_linked s p row.effect xs)
+    (not_linked s p row.effect xs)
     refl refl refl refl refl)))

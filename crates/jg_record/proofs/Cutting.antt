@@ -19,7 +19,7 @@ before_or mark text from k j false high old none lt = λ mark_at.
     let place : from + (j - from) ≡ j = omega (arith, past) in
     let is : slice_index (drop from text) (j - from) ≡ mark = get_or-drop from text (j - from) 0 ∙ ap (slice_index text) place ∙ mark_at.0 in
     none (j - from) (omega arith) (omega (arith, past, lt)) (let same : (slice_index (drop from text) (j - from) == mark) ≡ true = grind (arith, nat_tests, is)
-        in same)
+    in same)
 
 -- where none was found so far, and none comes up to there, there is none before it
 pub none_ahead : (mark : ℕ) (text : List ℕ) (from k : ℕ) → NoMark mark text from → Nowhere (Passes (is_byte mark) (drop from text)) 0 k
@@ -44,14 +44,14 @@ round mark text before (is, (some, front, within, behind)) =
     let first : slice_index text before ≡ 32 = ap (slice_index text) (sym one) ∙ front in
     let second : drop (before + 1) text ≡ mark ∷ drop (before + 2) text =
     drop_more text (before + 1) 0 (omega (arith, within)) ∙ ap (λ b. b ∷ drop (before + 1 + 1) text) is
-        ∙ ap (λ n. mark ∷ drop n text) (let n : before + 1 + 1 ≡ before + 2 = omega arith in n) in
+    ∙ ap (λ n. mark ∷ drop n text) (let n : before + 1 + 1 ≡ before + 2 = omega arith in n) in
     let third : drop (before + 2) text ≡ 32 ∷ drop (before + 3) text =
     ap (λ n. drop n text) (let n : before + 2 ≡ before + 1 + 1 = omega arith in n) ∙ drop_more text (before + 1 + 1) 0 within
-        ∙ ap (λ b. b ∷ drop (before + 1 + 1 + 1) text) behind
+    ∙ ap (λ b. b ∷ drop (before + 1 + 1 + 1) text) behind
     ∙ ap (λ n. 32 ∷ drop n text) (let n : before + 1 + 1 + 1 ≡ before + 3 = omega arith in n) in
     sym (take-append-drop before text) ∙ ap (λ (rest : List ℕ). take before text ++ rest)
     (drop_more text before 0 (omega (arith, within)) ∙ ap (λ b. b ∷ drop (before + 1) text) first
-        ∙ ap (λ (rest : List ℕ). 32 ∷ rest) (second ∙ ap (λ (rest : List ℕ). mark ∷ rest) third))
+    ∙ ap (λ (rest : List ℕ). 32 ∷ rest) (second ∙ ap (λ (rest : List ℕ). mark ∷ rest) third))
 
 pub cut_round : (mark : ℕ) (text front back : List ℕ) (place : ℕ) → IsFirstMark mark text place → front ≡ take (place - 1) text → back ≡ drop (place + 2) text
     → CutsAt mark text front (Some back)

@@ -83,8 +83,13 @@ module _ (s : StatedSetup) (text : List ℕ) (plain : IsPlain text) where
 
     pub unknown_function : ((place : ℕ) → place < 243 → slice_get words 0 ≢ Some (name_at place)) → IsFirstFault s text UnknownFunction
     unknown_function none = record {
-      fault = (env, fits_env, ap (λ fs. slice_get fs 1) split, λ place below is. none place below
-          (ap (λ (fs : List (List ℕ)). slice_get fs 2) (sym split) ∙ is));
+      fault = (
+        env,
+        fits_env,
+        ap (λ fs. slice_get fs 1) split,
+        λ place below is. none place below
+            (ap (λ (fs : List (List ℕ)). slice_get fs 2) (sym split) ∙ is),
+      );
       first = asked;
     }
 

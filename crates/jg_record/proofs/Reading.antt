@@ -136,8 +136,22 @@ pub question_spelt : (s : StatedSetup) (text : List ℕ) (r : Result Event Recor
     (xs : List Argument) (gone : List ObjId) → FitsTid t
     → FitsEnv env → fields text ≡ tid_text t ∷ env_text env ∷ words → IfOk r (λ e. AsksBehind t env words e xs) → IfOk r (λ e. SpellsEvent s text e xs gone)
 question_spelt s text (Ok e) t env words xs gone fits fits_env split (place, row, rest, h, is, asks) =
-    inl (t, env, place, row, rest, record { fits_tid = fits; fits_env = fits_env; at = h.at; split =
-        split ∙ ap (λ (ws : List (List ℕ)). tid_text t ∷ env_text env ∷ ws) h.split }, asks, is)
+    inl (
+      t,
+      env,
+      place,
+      row,
+      rest,
+      record {
+        fits_tid = fits;
+        fits_env = fits_env;
+        at = h.at;
+        split =
+            split ∙ ap (λ (ws : List (List ℕ)). tid_text t ∷ env_text env ∷ ws) h.split;
+      },
+      asks,
+      is,
+    )
 question_spelt s text (Err f) t env words xs gone fits fits_env split spelt = spelt
 
 pub words_spelt : (s : StatedSetup) (text : List ℕ) (r : Result Event RecordFault) (t : Tid) (v : Verb) (words : List (List ℕ)) (xs : List Argument)

@@ -70,4 +70,4 @@ sorted_of [] (w ∷ words) xs asks = absurd asks
 sorted_of (t ∷ takes) (w ∷ words) [] asks = absurd asks
 sorted_of (t ∷ takes) (w ∷ words) (x ∷ xs) asks =
     both (is_sort (sort_of t) x) (are_sorted (if is_last t then t ∷ takes else takes) xs) (sort_is (sort_of t) w x asks.0)
-        (sorted_of (if is_last t then t ∷ takes else takes) words xs asks.1)
+    (sorted_of (if is_last t then t ∷ takes else takes) words xs asks.1)

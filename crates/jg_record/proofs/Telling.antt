@@ -141,7 +141,7 @@ told s by (fact.Meet class n) gone has fits =
 told s by (fact.Gone o) gone has fits = absurd (let no : ⊥ = cc in no)
 told s by (fact.Link class native) gone has fits =
     spoken s by _ gone verb.Linked (codes "linked") (decimal class ∷ decimal native ∷ []) refl refl
-        (seen_natural class fits.0, (seen_natural native fits.1, tt))
+    (seen_natural class fits.0, (seen_natural native fits.1, tt))
     (class, fits.0, native, fits.1, refl, refl)
 told s by (fact.Unlink class) gone has fits =
     spoken s by _ gone verb.Unlinked (codes "unlinked") (decimal class ∷ []) refl refl (seen_natural class fits, tt) (class, fits, refl, refl)
@@ -149,12 +149,12 @@ told s by (fact.Warn home) gone has fits =
     spoken s by _ gone verb.Warned (codes "warned") (decimal home ∷ []) refl refl (seen_natural home fits, tt) (home, fits, refl, refl)
 told s by (fact.Checked (checked.Local t n o)) gone has fits =
     spoken s t _ gone verb.Local (codes "local") (decimal n ∷ kept_text o ∷ []) refl refl (seen_number n fits.0, (seen_kept o fits.1, tt))
-        (n, fits.0, o, fits.1, refl, refl)
+    (n, fits.0, o, fits.1, refl, refl)
 told s by (fact.Checked (checked.Pending t o)) gone has fits =
     spoken s t _ gone verb.Pending (codes "pending") (kept_text o ∷ []) refl refl (seen_kept o fits, tt) (o, fits, refl, refl)
 told s by (fact.Checked (checked.Length o n)) gone has fits =
     spoken s by _ gone verb.Length (codes "length") (object_text o ∷ decimal n ∷ []) refl refl (seen_object o fits.0, (seen_natural n fits.1, tt))
-        (o, fits.0, n, fits.1, refl, refl)
+    (o, fits.0, n, fits.1, refl, refl)
 
 -- ---- and back
 

@@ -39,7 +39,7 @@ lines_by-last t (y ∷ file) x = by (y.tid.0 == t) (x.tid.0 == t) (lines_by-last
     by : (b c : Bool) → lines_by t (file ++ x ∷ []) ≡ (if c then lines_by t file ++ line_in x ∷ [] else lines_by t file)
         → (if b then line_in y ∷ lines_by t (file ++ x ∷ []) else lines_by t (file ++ x ∷ []))
         ≡ (if c then (if b then line_in y ∷ lines_by t file else lines_by t file) ++ line_in x ∷ []
-            else (if b then line_in y ∷ lines_by t file else lines_by t file))
+        else (if b then line_in y ∷ lines_by t file else lines_by t file))
     by true true e = ap (λ ls. line_in y ∷ ls) e
     by true false e = ap (λ ls. line_in y ∷ ls) e
     by false true e = e
@@ -75,7 +75,7 @@ module _ (input mid input' : Option (List ℕ)) (n : ℕ) (old : List Lines) (h 
       → LinesTaken input input' (map text_of (h.file ++ x ∷ []))
   read_more text x spelt line =
       subst (λ (ls : List (List ℕ)). LinesTaken input input' ls)
-          (ap (λ (t : List ℕ). map text_of h.file ++ t ∷ []) spelt.text ∙ sym (map-append text_of h.file (x ∷ [])))
+      (ap (λ (t : List ℕ). map text_of h.file ++ t ∷ []) spelt.text ∙ sym (map-append text_of h.file (x ∷ [])))
       (lines_more input mid input' _ _ h.read line)
 
   pub goes_on : (new : List Lines) (text : List ℕ) → TakesLine text n old new (Ok tt) → LinesTaken mid input' (text ∷ [])
@@ -97,10 +97,13 @@ module _ (input mid input' : Option (List ℕ)) (n : ℕ) (old : List Lines) (h 
       (h.file ++ x ∷ [], file_more h.file n old new text x h.is_file h.counted within spelt adds, ended input input' _ (read_more text x spelt line) done, done)
 
   pub all_read : LinesTaken mid input' [] → IsAtEnd input' → ReadsScripts input input' (Ok old)
-  all_read none done =
-      (h.file, h.is_file, ended input input' _
-          (subst (λ (ls : List (List ℕ)). LinesTaken input input' ls) (append-nil (map text_of h.file)) (lines_more input mid input' _ _ h.read none)) done,
-          done)
+  all_read none done = (
+    h.file,
+    h.is_file,
+    ended input input' _
+        (subst (λ (ls : List (List ℕ)). LinesTaken input input' ls) (append-nil (map text_of h.file)) (lines_more input mid input' _ _ h.read none)) done,
+    done,
+  )
 
   is_refused : (new : List Lines) (text : List ℕ) (l : ℕ) (f : ScriptFault) → TakesLine text n old new (Err (Script l f)) → IsRefused h.file old f text
   is_refused new text l f (is, inl first) = inl first
@@ -119,9 +122,14 @@ module _ (input mid input' : Option (List ℕ)) (n : ℕ) (old : List Lines) (h 
   )
   refused new text (Limit l) (is, past, well) line front =
       let counted = h.counted in
-      let few = h.is_file.few_lines in
-      (h.file, (old, h.is_file), followed input input' _ text IsWellFormed (lines_more input mid input' _ _ h.read line) well, omega arith, omega arith,
-          one_more input mid input' _ h.taken front)
+      let few = h.is_file.few_lines in (
+        h.file,
+        (old, h.is_file),
+        followed input input' _ text IsWellFormed (lines_more input mid input' _ _ h.read line) well,
+        omega arith,
+        omega arith,
+        one_more input mid input' _ h.taken front,
+      )
   refused new text (NoMemory l) is line front = (h.file, (old, h.is_file), begun input mid _ h.read, is ∙ h.counted, one_more input mid input' _ h.taken front)
   refused new text (Read l) none line front = absurd none
   refused new text (Write l) none line front = absurd none
@@ -129,8 +137,17 @@ module _ (input mid input' : Option (List ℕ)) (n : ℕ) (old : List Lines) (h 
   pub holds_refused : (new : List Lines) (text : List ℕ) (fault : RunFault) → TakesLine text n old new (Err fault) → LinesTaken mid input' (text ∷ [])
       → HoldsRefused input text (Err fault)
   holds_refused new text (Script l f) takes line =
-      λ short. (h.file, (old, h.is_file, followed input input' _ text (λ next. next ≡ text) (lines_more input mid input' _ _ h.read line) refl, is_refused new
-          text l f takes), takes.0 ∙ h.counted)
+      λ short. (
+        h.file,
+        (
+          old,
+          h.is_file,
+          followed input input' _ text (λ next. next ≡ text) (lines_more input mid input' _ _ h.read line) refl,
+          is_refused new
+              text l f takes,
+        ),
+        takes.0 ∙ h.counted,
+      )
   holds_refused new text (Limit l) takes line = tt
   holds_refused new text (NoMemory l) takes line = tt
   holds_refused new text (Read l) takes line = tt

@@ -92,7 +92,7 @@ begun_in text tail t e c cut h =
     let short = short_call t e c h.tid h.env h.call in
     let printable = All-append (λ b. IsInRange 32 126 b) call equals (printable_line t e c h.tid h.env h.call) seen_equals in
     let rest = cut_within (call ++ equals) text tail begins.0 (clean_of (call ++ equals) printable) (omega (arith, short, length-append call equals)) cut
-        (begins.1
+    (begins.1
     ∙ sym (append_assoc call equals begins.0)) in
     record { tid = h.tid; env = h.env; call = h.call; begins = (rest.0, rest.1 ∙ append_assoc call equals rest.0) }
 
@@ -178,7 +178,7 @@ entry_is_line x text tail more fits outcome one cut e =
     let line = plain.0 in
     let is = plain.2 in
     let same = same_line line text tail more (clean_of line is.printable) is.short one cut
-        (e ∙ ap (λ (bs : List ℕ). bs ++ more) plain.1 ∙ append_assoc line (10 ∷ []) more) in
+    (e ∙ ap (λ (bs : List ℕ). bs ++ more) plain.1 ∙ append_assoc line (10 ∷ []) more) in
     plain.1 ∙ ap (λ (bs : List ℕ). bs ++ 10 ∷ []) (sym same)
 
 line_within : (x : Entry) (text : List ℕ) → IsScript (x ∷ []) → FitsOutcome x.outcome → entry_text x ≡ text ++ 10 ∷ [] → length text ≤ 65536
@@ -227,7 +227,7 @@ not_taken old new e text n (Write line) room none = absurd none
 
 module _ (old new : State) (text entry : List ℕ) (t : Tid) (env : Option EnvId) (call : Call) (n : ℕ) (begun : BeginsWith text t env call)
     (outcome : FitsOutcome (next_entry old t env call).outcome) (took : Took old new (next_entry old t env call))
-        (is : entry ≡ entry_text (next_entry old t env call)) where
+    (is : entry ≡ entry_text (next_entry old t env call)) where
   pub is_its_line : entry ≡ text ++ 10 ∷ [] → ReplaysLine old new text n (Ok None)
   is_its_line same =
       let fits = next_fits old t env call begun.tid begun.env begun.call in

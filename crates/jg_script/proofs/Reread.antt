@@ -133,7 +133,7 @@ module _ (input mid input' : Option (List ℕ)) (setup : StatedSetup) (limit lin
   differs_here taken bytes some one front below other =
       let counted = h.counted in
       let differs : (tail : List ℕ) → IsCut text tail → 0 < length (text ++ tail) → IsDifferent setup limit old.journal (text ++ tail) =
-          λ tail cut long. record {
+      λ tail cut long. record {
         some = long;
         within = λ _. subst (λ (s : StatedSetup). ¬ GoesOn s old.journal (text ++ tail)) h.setup_kept (other tail one cut);
         past = λ full. absurd (omega (arith, counted, below, full));
@@ -159,7 +159,7 @@ module _ (input mid input' : Option (List ℕ)) (setup : StatedSetup) (limit lin
   is_past taken (Ok (replayed.Differs l NoCall)) bytes some one front above (is, none) =
       let counted = h.counted in
       let differs : (tail : List ℕ) → IsCut text tail → 0 < length (text ++ tail) → IsDifferent setup limit old.journal (text ++ tail) =
-          λ tail cut long. record {
+      λ tail cut long. record {
         some = long;
         within = λ below. absurd (omega (arith, counted, above, below));
         past = λ _ begins. none (call_in text tail cut begins);
@@ -182,7 +182,7 @@ module _ (input mid input' : Option (List ℕ)) (setup : StatedSetup) (limit lin
       let counted = h.counted in
       let within = (h.history).within in
       let begins : (tail : List ℕ) → IsCut text tail → 0 < length (text ++ tail) → BeginsCall (text ++ tail) =
-          λ tail cut long. call_goes_on text tail t env call begun in (
+      λ tail cut long. call_goes_on text tail t env call begun in (
         old.journal,
         h.history,
         (

@@ -52,8 +52,13 @@ none_checked input bytes limit h none =
     (subst (λ (g : List Entry). BeginsWith input (call_lines g)) (sym none) (begins input), ([], inl none, Appends-nil bytes, refl))
 
 pub none_read : (input : Option (List ℕ)) (h : List Entry) → h ≡ [] → Reads input input h (Err (NoMemory 1))
-none_read input h none = ([], inl none, refl, one_more input input input [] (Consumes-nil input)
-    ([], ([], (λ k d below. absurd (omega (arith, below))), inl refl, omega arith), Consumes-nil input))
+none_read input h none = (
+  [],
+  inl none,
+  refl,
+  one_more input input input [] (Consumes-nil input)
+      ([], ([], (λ k d below. absurd (omega (arith, below))), inl refl, omega arith), Consumes-nil input),
+)
 
 pub long_answered : (input mid input' bytes bytes' : Option (List ℕ)) (limit line : ℕ) (guard : State) → HasChecked input mid bytes bytes' limit line guard
     → length guard.journal ≤ limit
@@ -87,14 +92,20 @@ module _ (input mid input' bytes part bytes' : Option (List ℕ)) (limit line : 
       → Checks input input' bytes bytes' limit new.journal (Err fault)
   answered_err (Script l f) h within taken (device, same, first, is) =
       let P : List Entry → Type 0 = λ k. AreFollowedBy input (call_lines k) (λ next. IsFirstFault next f)
-          × (f ≢ LineTooLong → TakesOneMore input input' (call_lines k)) × WritesAll bytes bytes' k
+      × (f ≢ LineTooLong → TakesOneMore input input' (call_lines k)) × WritesAll bytes bytes' k
       × (l ≡ length k + 1) × (length k ≤ limit) in
       let Q : Option (List ℕ) → Type 0 = λ d. WritesAll bytes d old.journal in
-      subst P (sym same) (followed _ _ _ text (λ next. IsFirstFault next f) taken first, (λ _. (text, taken)), subst Q (sym device) h.written, is
-          ∙ h.counted, within)
+      subst P (sym same) (
+        followed _ _ _ text (λ next. IsFirstFault next f) taken first,
+        (λ _. (text, taken)),
+        subst Q (sym device) h.written,
+        is
+            ∙ h.counted,
+        within,
+      )
   answered_err (Limit l) h within taken (device, same, well, full, is) =
       let P : List Entry → Type 0 = λ k. AreFollowedBy input (call_lines k) IsWellFormed × TakesOneMore input input' (call_lines k) × WritesAll bytes bytes' k
-          × (l ≡ limit + 1) × (length k ≡ limit) in
+      × (l ≡ limit + 1) × (length k ≡ limit) in
       let Q : Option (List ℕ) → Type 0 = λ d. WritesAll bytes d old.journal in
       let limited = h.limited in
       let counted = h.counted in
@@ -102,7 +113,7 @@ module _ (input mid input' bytes part bytes' : Option (List ℕ)) (limit line : 
   answered_err (NoMemory l) h within taken (device, inl same, is) =
       let Q : Option (List ℕ) → Type 0 = λ d. WritesAll bytes d old.journal in
       let P : List Entry → Type 0 =
-          λ k. BeginsWith input (call_lines k) × ((g : List Entry) × ((k ≡ g) ⊎ ((e : Entry) × (k ≡ e ∷ g))) × WritesAll bytes bytes' g × (l ≡ length g + 1)) in
+      λ k. BeginsWith input (call_lines k) × ((g : List Entry) × ((k ≡ g) ⊎ ((e : Entry) × (k ≡ e ∷ g))) × WritesAll bytes bytes' g × (l ≡ length g + 1)) in
       subst P (sym same) (begun_before _ _ _ text taken, (old.journal, inl refl, subst Q (sym device) h.written, is ∙ h.counted))
   answered_err (NoMemory l) h within taken (device, inr (e, j), is) =
       let Q : Option (List ℕ) → Type 0 = λ d. WritesAll bytes d old.journal in

@@ -94,13 +94,26 @@ Ascend-insert xs t i s up gap is j k d lt within =
     let new = insert xs i s in
     let long = length-insert xs i s gap.within in
     let at_below : (n : ℕ) → n < i → thread_at new n d ≡ thread_at xs n d =
-        λ n below. ap (λ (x : Lines). x.tid.0) (get_or-insert_below xs i s d n below gap.within) in
+    λ n below. ap (λ (x : Lines). x.tid.0) (get_or-insert_below xs i s d n below gap.within) in
     let at_here : (n : ℕ) → n ≡ i → thread_at new n d ≡ t = λ n here. rw here (ap (λ (x : Lines). x.tid.0) (get_or-insert_at xs i s d gap.within) ∙ is) in
     let at_above : (n : ℕ) → i < n → thread_at new n d ≡ thread_at xs (n - 1) d =
     λ n above. subst (λ (q : ℕ). thread_at new q d ≡ thread_at xs (n - 1) d) {x = n - 1 + 1} (omega arith)
     (ap (λ (x : Lines). x.tid.0) (get_or-insert_above xs i s d (n - 1) (omega arith) gap.within)) in
-    grind (arith, at_below j, at_here j, at_above j, at_below k, at_here k, at_above k, up j k d, up j (k - 1) d, up (j - 1) (k - 1) d, gap.below j d, gap.above
-        (k - 1) d)
+    grind (
+      arith,
+      at_below j,
+      at_here j,
+      at_above j,
+      at_below k,
+      at_here k,
+      at_above k,
+      up j k d,
+      up j (k - 1) d,
+      up (j - 1) (k - 1) d,
+      gap.below j d,
+      gap.above
+          (k - 1) d,
+    )
 
 All-insert : {X : Type 0} (P : X → Type 0) (xs : List X) (i : ℕ) (x : X) → P x → All P xs → All P (insert xs i x)
 All-insert P xs zero x p each = All-cons P x xs p each
@@ -152,4 +165,4 @@ taken text n old new t env call spelt within (Ok done) adds not = (within, (reco
 taken text n old new t env call spelt within (Err fault) adds (inl none) = subst (λ (f : RunFault). TakesLine text n old new (Err f)) (sym none) refl
 taken text n old new t env call spelt within (Err fault) adds (inr (many, all, absent)) =
     subst (λ (f : RunFault). TakesLine text n old new (Err f)) (sym many)
-        (refl, inr (refl, all, within, (record { tid = t; env = env; call = call }, spelt, absent)))
+    (refl, inr (refl, all, within, (record { tid = t; env = env; call = call }, spelt, absent)))

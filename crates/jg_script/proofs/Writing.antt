@@ -20,9 +20,15 @@ module _ (bytes mid bytes' : Option (List ℕ)) (h : List Entry) (n : ℕ) (e : 
   pub not_written : (fault : RunFault) → WritesAll bytes mid (oldest n h) → WritesLine mid bytes' e (n + 1) (Err fault)
       → WritesJournal bytes bytes' h (Err fault)
   not_written (NoMemory l) before (is, same) =
-      let long = length-oldest h n (omega (arith, slice_get_within (reverse h) n e at, length-reverse h)) in
-      (reverse (drop (suc n) (reverse h)), e, oldest n h, oldest_before h n e at, omega arith, subst (λ (b : Option (List ℕ)). WritesAll bytes b (oldest n h))
-          (sym same) before)
+      let long = length-oldest h n (omega (arith, slice_get_within (reverse h) n e at, length-reverse h)) in (
+        reverse (drop (suc n) (reverse h)),
+        e,
+        oldest n h,
+        oldest_before h n e at,
+        omega arith,
+        subst (λ (b : Option (List ℕ)). WritesAll bytes b (oldest n h))
+            (sym same) before,
+      )
   not_written (Write l) before (is, front) =
       let long = length-oldest h n (omega (arith, slice_get_within (reverse h) n e at, length-reverse h)) in
       (reverse (drop (suc n) (reverse h)), e, oldest n h, oldest_before h n e at, omega arith, (mid, before, front))

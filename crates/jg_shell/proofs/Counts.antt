@@ -68,7 +68,7 @@ one_of t (w ∷ ws) apart zero v lt is own =
     let same : w.tid ≡ t = ap (λ (u : Work). u.tid) is ∙ own in
     let here : is_of t w ≡ 1 = ap (λ (b : Bool). if b then 1 else 0) (eq-eqb t.0 w.tid.0 (ap (λ (u : Tid). u.0) (sym same))) in
     let others : All (λ (u : Work). t ≢ u.tid) ws =
-        All-weaker (λ (u : Work). w.tid ≢ u.tid) (λ (u : Work). t ≢ u.tid) (λ u other its. other (same ∙ its)) ws (head_apart w ws apart) in
+    All-weaker (λ (u : Work). w.tid ≢ u.tid) (λ (u : Work). t ≢ u.tid) (λ u other its. other (same ∙ its)) ws (head_apart w ws apart) in
     omega (arith, sum_by-cons (is_of t) w ws, here, none_of t ws others)
 one_of t (w ∷ ws) apart (suc k) v lt is own =
     let other : t ≢ w.tid = λ its. apart 0 (suc k) v (omega arith) lt (sym its ∙ (sym own ∙ ap (λ (u : Work). u.tid) (sym is))) in

@@ -16,7 +16,7 @@ last_is : (turns : ℕ) (line : Line) (g rest : List Receipt) → (a : IsGroup t
 last_is turns line g rest a =
     ap (λ (rs : List Receipt). get_or (rs ++ rest) (length a.retries) a.last) a.group_is
     ∙ (ap (λ (rs : List Receipt). get_or rs (length a.retries) a.last) (append_assoc a.retries (a.last ∷ []) rest)
-        ∙ get_or-append_seam a.retries a.last rest a.last)
+    ∙ get_or-append_seam a.retries a.last rest a.last)
 
 size : (turns : ℕ) (line : Line) (g : List Receipt) → (a : IsGroup turns line g) → length g ≡ length a.retries + 1
 size turns line g a = omega (arith, ap (λ (rs : List Receipt). length rs) a.group_is, length-append a.retries (a.last ∷ []))
@@ -56,7 +56,7 @@ same_rest turns line g g' rest rest' e a c =
     let no' = no_longer turns line g' g rest' rest (sym e) c a (is_monitor_enter line.call) refl in
     let same : length g' ≡ length g = omega (arith, no, no') in
     sym (drop-append_seam g' rest')
-        ∙ (ap (λ (rs : List Receipt). drop (length g') rs) (sym e) ∙ (ap (λ (n : ℕ). drop n (g ++ rest)) same ∙ drop-append_seam g rest))
+    ∙ (ap (λ (rs : List Receipt). drop (length g') rs) (sym e) ∙ (ap (λ (n : ℕ). drop n (g ++ rest)) same ∙ drop-append_seam g rest))
 
 -- what is told before a line has ended isn't the whole of it
 part_only : (turns : ℕ) (line : Line) (part g rest : List Receipt) → IsPart turns line part → part ≡ g ++ rest → IsGroup turns line g → (b : Bool)
@@ -123,11 +123,11 @@ IsCut-begins turns t lines rs some c =
     let rest = map (free t) c.later in
     let p : Played turns (c.done ++ c.line ∷ c.later) (c.whole ++ (last ++ rest)) =
     Played-append turns c.done (c.line ∷ c.later) c.whole (last ++ rest) c.played
-        (last, rest, refl, closed turns t c.line c.part c.begun, all_free turns t c.later some) in
+    (last, rest, refl, closed turns t c.line c.part c.begun, all_free turns t c.later some) in
     let same : rs ++ (free t c.line ∷ rest) ≡ c.whole ++ (last ++ rest) =
     ap (λ (qs : List Receipt). qs ++ (free t c.line ∷ rest)) c.receipts_are
     ∙ (append_assoc c.whole c.part (free t c.line ∷ rest) ∙ ap (λ (qs : List Receipt). c.whole ++ qs) (sym (append_assoc c.part (free t c.line ∷ []) rest)))
-        in (
+    in (
       free t c.line ∷ rest,
       subst (λ (ls : List Line). Played turns ls (rs ++ (free t c.line ∷ rest))) (sym c.lines_are)
           (subst (λ (qs : List Receipt). Played turns (c.done ++ c.line ∷ c.later) qs) (sym same) p),

@@ -61,8 +61,8 @@ told_taken old new t env call r takes place of =
     ap (λ (h : List Entry). told_at h r.place) takes.journal
     ∙ (ap (λ n. told_at (x ∷ old.journal) n) place
     ∙ (told_newest x old.journal
-        ∙ ap Some (told_of_entry (verdict old.setup (parts old.setup old.journal) t.0 env call) (answer old.setup (parts old.setup old.journal) t call) t env
-        call r of
+    ∙ ap Some (told_of_entry (verdict old.setup (parts old.setup old.journal) t.0 env call) (answer old.setup (parts old.setup old.journal) t call) t env
+    call r of
     takes.answered)))
 
 pub told_where_taken : (old new : State) (t : Tid) (env : Option EnvId) (call : Call) (result : Result Receipt Refusal)

@@ -67,7 +67,7 @@ Stand-from h low [] s = All-nil _
 Stand-from h low (r ∷ rs) s =
     All-cons (λ (q : Receipt). low ≤ q.place) r rs s.0.after
     (All-weaker (λ (q : Receipt). r.place + 1 ≤ q.place) (λ (q : Receipt). low ≤ q.place) (λ q le. omega (arith, s.0.after, le)) rs
-        (Stand-from h (r.place + 1) rs s.1))
+    (Stand-from h (r.place + 1) rs s.1))
 
 -- receipts that stand in the journal have rising places
 pub Stand-rise : (h : List Entry) (low : ℕ) (rs : List Receipt) → Stand h low rs → PlacesRise rs
@@ -75,5 +75,5 @@ Stand-rise h low [] s = λ i j d lt within. absurd (omega arith)
 Stand-rise h low (r ∷ rs) s =
     AllPairs-cons (λ (one later : Receipt). one.place < later.place) r rs
     (All-weaker (λ (q : Receipt). r.place + 1 ≤ q.place) (λ (q : Receipt). r.place < q.place) (λ q le. omega (arith, le)) rs
-        (Stand-from h (r.place + 1) rs s.1))
+    (Stand-from h (r.place + 1) rs s.1))
     (Stand-rise h (r.place + 1) rs s.1)

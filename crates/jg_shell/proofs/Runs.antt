@@ -32,7 +32,7 @@ pub IsAt-line : (turns : ℕ) (lines : List Line) (index : ℕ) (old now new : O
     → AddsGroup turns line now new → IsAt turns lines (index + 1) old new
 IsAt-line turns lines index old now new line within is at adds =
     let next : take (index + 1) lines ≡ take index lines ++ line ∷ [] =
-        take_more lines index line within ∙ ap (λ (l : Line). take index lines ++ l ∷ []) (sym is) in
+    take_more lines index line within ∙ ap (λ (l : Line). take index lines ++ l ∷ []) (sym is) in
     record {
       receipts = at.receipts ++ adds.group;
       now_is = added_twice old now new at.receipts adds.group at.now_is adds.new_is;
@@ -44,11 +44,11 @@ pub Ran-cut : (turns : ℕ) (slice lines : List Line) (index : ℕ) (old now new
     → slice ≡ lines → index < length slice
     → line ≡ get_or slice index line → IsAt turns slice index old now → AddsPart turns line now new
     → Ran turns (record { tid = old.tid; lines = lines; receipts = old.receipts; stopped = before })
-        (record { tid = new.tid; lines = lines; receipts = new.receipts; stopped = Some stop })
+    (record { tid = new.tid; lines = lines; receipts = new.receipts; stopped = Some stop })
 Ran-cut turns slice lines index old now new line before stop some same within is at adds =
     let new_is = added_twice old now new at.receipts adds.part at.now_is adds.new_is in
     let split : slice ≡ take index slice ++ line ∷ drop (suc index) slice =
-        split_at slice index line within ∙ ap (λ (l : Line). take index slice ++ l ∷ drop (suc index) slice) (sym is) in
+    split_at slice index line within ∙ ap (λ (l : Line). take index slice ++ l ∷ drop (suc index) slice) (sym is) in
     let cut : IsCut turns lines (at.receipts ++ adds.part) = record {
       done = take index slice;
       line = line;

@@ -36,7 +36,7 @@ down_onto t h low (r ∷ rs) acc own s d =
     let own' = λ (q : Receipt). q.tid ≡ t in
     subst (λ (qs : List Receipt). Down t h (next_place (r.place + 1) rs) qs) (sym (turned r rs acc))
     (down_onto t h (r.place + 1) rs (r ∷ acc) (All-tail own' r rs own) s.1
-        (omega arith, All-head own' r rs own, s.0.told_is, Down-raise t h low r.place acc s.0.after d))
+    (omega arith, All-head own' r rs own, s.0.told_is, Down-raise t h low r.place acc s.0.after d))
 
 Down-within : (t : Tid) (h : List Entry) (n : ℕ) (rs : List Receipt) → Down t h n rs → Down t h (length h) rs
 Down-within t h n [] d = tt
@@ -46,7 +46,7 @@ Down-within t h n (r ∷ rs) d = (told_within h r.place (told_by r) d.2, d.1, d.
 right_down : (h : List Entry) (w : Work) → IsRightWorker h w → Down w.tid h (length h) (reverse w.receipts)
 right_down h w right =
     let down : Down w.tid h (next_place 0 w.receipts) (reverse w.receipts) =
-        subst (λ (qs : List Receipt). Down w.tid h (next_place 0 w.receipts) qs) (append-nil (reverse w.receipts))
+    subst (λ (qs : List Receipt). Down w.tid h (next_place 0 w.receipts) qs) (append-nil (reverse w.receipts))
     (down_onto w.tid h 0 w.receipts [] right.own right.stand tt) in
     Down-within w.tid h (next_place 0 w.receipts) (reverse w.receipts) down
 
@@ -85,8 +85,8 @@ own_at t x h [] true is d c rec =
 own_at t x h (r ∷ rs) true is d c rec =
     let has : has_place (length h) (r ∷ rs) ≡ true = c (length h) (told_of x) (told_newest x h) (tid_same x.tid t is) in
     let here : r.place ≡ length h =
-        here_at (r.place == length h) (has_place (length h) rs) r.place (length h) refl has (no_place t (x ∷ h) r.place (length h) rs (omega (arith, d.0)) d.3)
-        in
+    here_at (r.place == length h) (has_place (length h) rs) r.place (length h) refl has (no_place t (x ∷ h) r.place (length h) rs (omega (arith, d.0)) d.3)
+    in
     let same : told_of x ≡ told_by r = same_Some (told_of x) (told_by r) (sym (told_newest x h) ∙ (ap (told_at (x ∷ h)) (sym here) ∙ d.2)) in
     let below : Down t h (length h) rs = older t x h (length h) rs (omega arith) (subst (λ (n : ℕ). Down t (x ∷ h) n rs) here d.3) in
     let covers : Covers t h rs =

@@ -24,7 +24,7 @@ pub added_twice : (old now new : OwnReceipts) (a b : List Receipt) → now ≡ r
     → new ≡ record old { receipts = old.receipts ++ (a ++ b) }
 added_twice old now new a b p q =
     q ∙ (ap (λ (t : OwnReceipts). record t { receipts = t.receipts ++ b }) p
-        ∙ ap (λ (rs : List Receipt). record old { receipts = rs }) (append_assoc old.receipts a b))
+    ∙ ap (λ (rs : List Receipt). record old { receipts = rs }) (append_assoc old.receipts a b))
 
 pub IsTurn-first : (turns : ℕ) (line : Line) (own : OwnReceipts) → 1 ≤ turns → IsTurn 1 turns line own own
 IsTurn-first turns line own some = record {

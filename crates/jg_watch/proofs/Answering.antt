@@ -101,9 +101,13 @@ replied_line s shown told old new line bytes bytes' n x r result same says stand
 
     by : (result : Result Bool Stop) → WritesReply x.answer r.reply (shown_text shown x.event x.note r.reply) bytes bytes' n result
         → AnswersLine s shown told new x.operands x.gone line bytes bytes' n (step_by n r result)
-    by (Ok true) (agrees, written) =
-        (shown_text shown x.event x.note r.reply, after x.says x.gone told, inr (x, says, record { can = can; is = is }, agrees, operand, what, refl, refl),
-            now, written)
+    by (Ok true) (agrees, written) = (
+      shown_text shown x.event x.note r.reply,
+      after x.says x.gone told,
+      inr (x, says, record { can = can; is = is }, agrees, operand, what, refl, refl),
+      now,
+      written,
+    )
     by (Ok false) (differs, kept) = ((x, r.reply, says, record { can = can; is = is }, differs), kept, refl)
     by (Err (NoMemory number)) wrote = wrote
     by (Err (Write number)) (agrees, front, is_n) = (

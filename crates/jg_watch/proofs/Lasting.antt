@@ -97,7 +97,7 @@ explains_on lines l old new text (inr had) adds is = by adds.text
     by (inl (lost, inr some)) = inl (lost, subst (λ n. 0 < n) (sym adds.most) some)
     by (inr (so_far, was, now)) =
         inr (now ∙ ap Some (ap (λ it. it ++ text) (same_Some _ _ (sym was ∙ had)) ∙ ap (λ it. explanations old.most lines ++ it) is)
-            ∙ ap (λ n. Some (explanations n (l ∷ lines))) (sym adds.most))
+        ∙ ap (λ n. Some (explanations n (l ∷ lines))) (sym adds.most))
 
 -- ---- the facts of what happened
 
@@ -144,7 +144,7 @@ goes_on s read shown input rest rest' bytes before before' n watch next new told
     (taken, (out, told, is, stands, written)) tally denials adds counted denied core bounds advise =
     let l : Answered = answered read line x xs gone out in
     let facts : told.facts ≡ facts_of (with_moment n l.what (moments_of h.lines)) =
-        facts_after read shown h.told told l n (moments_of h.lines) (facts_told s shown h.lines h.told h.answered) is in
+    facts_after read shown h.told told l n (moments_of h.lines) (facts_told s shown h.lines h.told h.answered) is in
     let so_many : next.denied ≡ denials_in h.lines = denials ∙ h.denied in
     record {
       lines = l ∷ h.lines;

@@ -125,7 +125,7 @@ is_judged s told text t env function xs gone (inl (t', env', place, row, words, 
     let p = parts_of told.facts in
     let found = verdict told.bounds s p t.0 env row xs in
     subst (λ (reply : Reply). (reply ≡ Passed) ⊎ ((rule : Rule) × (reply ≡ Denied rule)))
-        (sym (asked_of s told t env function row xs at (all_suit row.takes words xs asks)))
+    (sym (asked_of s told t env function row xs at (all_suit row.takes words xs asks)))
     (answered told.bounds s p t env row xs found)
 is_judged s told text t env function xs gone (inr (t', v, words, tells_of, tells)) =
     absurd (let no : ⊥ = cc (told_is s v t' words (Question t env function) gone tells) in no)

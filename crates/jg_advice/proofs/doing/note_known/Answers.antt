@@ -32,7 +32,7 @@ returns-in-Some-clause-noted c = λ q.
     let f = doing_after (Some (columns c.args.row.now)) c.args.throws c.args.call in
     let is : at c.args.name.0 c.args.doings.now ≡ Some c.in-Some.numbers.now = search rules in
     replaced c.args.name (option_map f (at c.args.name.1 c.in-Some.numbers.now)) c.args.doings.now (c.get_mut.follows.lender c.note_in.new.numbers)
-        c.in-Some.numbers.now c.note_in.new.numbers is
+    c.in-Some.numbers.now c.note_in.new.numbers is
     (c.get_mut.follows.holds c.note_in.new.numbers) c.get_mut.ensures.once c.note_in.ensures.noted q
     ∙ ap (λ found. if same_name c.args.name q then option_map f found else lookup (same_name q) (named c.args.doings.now))
     (sym (lookup-named c.args.name c.args.doings.now c.get_mut.ensures.once ∙ ap (λ found. at c.args.name.1 (table_in found)) is))

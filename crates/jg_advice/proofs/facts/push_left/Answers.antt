@@ -15,7 +15,7 @@ loop-seat-preserved c =
     c.args.out.now.items c.loop-seat.out.items c.push_left_of.new.out.items c.loop-seat-test.true
     c.loop-seat.invariant
     (subst (λ (seat : Numbered (List (ℕ × Source))). c.push_left_of.new.out.items ≡ c.loop-seat.out.items ++ map left (entries seat.number seat.value))
-        c.seat-item.is
+    c.seat-item.is
     c.in_ok-push_left_of.ensures)
 
 pub returns : goal.returns

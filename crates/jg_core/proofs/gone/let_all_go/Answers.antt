@@ -25,10 +25,10 @@ returns-in-None-clause-ok g c = λ p stand.
     let marks = are_marked p c.args.tables.now.objects c.args.objects.now _ _ c.requires.unmarked c.give_marks.ensures.marks
     (c.mark_held.ensures.marks p (holders_beside c.args.setup.now _ _ _ p stand refl)) in
     let same = marks_law _ _ p.heap c.in-None.ensures.same
-        (marks_law _ _ p.heap c.mark_held.ensures.same (marks_law _ _ p.heap c.give_marks.ensures.same stand.heap.stands)) in
+    (marks_law _ _ p.heap c.mark_held.ensures.same (marks_law _ _ p.heap c.give_marks.ensures.same stand.heap.stands)) in
     gone_stand c.args.setup.now _ _ objects p stand (search rules)
     (c.clear_marked.ensures p.globals (numbers_of objects []) (search rules)
-        (set_where_listed p c.args.tables.now.objects objects _ _ marks (c.in-None.ensures.set refl)))
+    (set_where_listed p c.args.tables.now.objects objects _ _ marks (c.in-None.ensures.set refl)))
     (record { stands = c.go.ensures.stands p.heap same; classes = search rules })
 
 pub returns-in-Some-clause-place : goal.returns-in-Some-clause-place
@@ -48,4 +48,4 @@ returns-in-Some-clause-unmarked g c =
 pub returns-in-Some-clause-by : goal.returns-in-Some-clause-by
 returns-in-Some-clause-by g c = λ p stand.
     c.holder_of-by.ensures p (holders_beside c.args.setup.now _ _ _ p stand
-        (ap (λ (rows : RowsBeside Rows). record rows { heap = c.take_marks.new.self }) c.mark_held.ensures.rows))
+    (ap (λ (rows : RowsBeside Rows). record rows { heap = c.take_marks.new.self }) c.mark_held.ensures.rows))

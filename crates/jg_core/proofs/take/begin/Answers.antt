@@ -14,4 +14,4 @@ start_thread-requires g c =
     let t = c.args.tid.0 in
     let none = not-true (is_attached c.requires.events t) (and_second (nat_lt 0 t) (not (is_attached c.requires.events t)) c.requires.can) in
     rw c.in_ok-reserve_start.ensures.rows
-        (can_start c.args.setup.now c.requires.events c.args.tables.now.locals.rows t c.requires.ordinary c.requires.stand.locals none)
+    (can_start c.args.setup.now c.requires.events c.args.tables.now.locals.rows t c.requires.ordinary c.requires.stand.locals none)

@@ -11,7 +11,7 @@ leave-requires g c =
     let p = c.requires.events in
     let t = c.args.tid.0 in
     can_leave c.args.setup.now p c.args.tables.now.locals.rows t c.requires.ordinary c.requires.stand.locals
-        (and_first (not (depth p t == 0)) _ (and_second (is_attached p t) _ c.requires.can))
+    (and_first (not (depth p t == 0)) _ (and_second (is_attached p t) _ c.requires.can))
 
 pub leave_native-requires-clause-inside : goal.leave_native-requires-clause-inside
 leave_native-requires-clause-inside g c =

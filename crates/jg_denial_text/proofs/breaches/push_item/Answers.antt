@@ -16,6 +16,6 @@ returns c =
     let to3 : string_bytes c.push_str-2.new.self ≡ start ++ text3
     = two start text2 (codes ", ") to2 c.in_ok-push_str-2.ensures.bytes in
     let last : OnOk c.push_range.result
-        (string_bytes c.push_range.new.out ≡ string_bytes c.push_str-2.new.self ++ breaches.range_text c.args.value c.args.least c.args.most)
+    (string_bytes c.push_range.new.out ≡ string_bytes c.push_str-2.new.self ++ breaches.range_text c.args.value c.args.least c.args.most)
     = search rules in
     on_ok_weaker c.push_range.result (two start text3 (breaches.range_text c.args.value c.args.least c.args.most) to3) last

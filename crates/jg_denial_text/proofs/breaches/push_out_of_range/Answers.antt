@@ -10,6 +10,6 @@ returns c =
     let one1 : string_bytes c.push_str.new.self ≡ start ++ breaches.argument_text c.args.argument
     = search rules in
     let last : OnOk c.push_range.result
-        (string_bytes c.push_range.new.out ≡ string_bytes c.push_str.new.self ++ breaches.range_text c.args.value c.args.least c.args.most)
+    (string_bytes c.push_range.new.out ≡ string_bytes c.push_str.new.self ++ breaches.range_text c.args.value c.args.least c.args.most)
     = search rules in
     on_ok_weaker c.push_range.result (two start (breaches.argument_text c.args.argument) (breaches.range_text c.args.value c.args.least c.args.most) one1) last

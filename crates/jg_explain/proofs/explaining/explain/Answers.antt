@@ -12,6 +12,6 @@ returns g c =
     let ask = watched whole.setup whole.journal place in
     let below : place ≤ length whole.journal = omega (arith, c.if-place-journal_len.false, c.journal_len.ensures.len) in
     let items = through ask kept.len kept.items c.deref_mut.result.now c.watch_until.new.watches (omega (arith, kept.ok)) c.deref_mut.ensures.value
-        c.in_ok-watch_until.ensures in
+    c.in_ok-watch_until.ensures in
     one_explained whole.setup whole.journal place c.deref.result.now c.in-Some.denial.now kept.items _ below c.in-Some.ensures.lookup.3.0
     (c.deref.ensures.value ∙ c.in_ok-denials.ensures.denials) c.in-Some.ensures.lookup.1 c.in_ok-denials.ensures.watches items

@@ -16,4 +16,4 @@ returns-in-Ok g c =
     c.deref-2.ensures.value ∙ c.in_ok-watches.ensures ∙ ap (map ask) c.in_ok-denials.ensures.watches in
     let denials = c.deref.ensures.value ∙ c.in_ok-denials.ensures.denials in
     c.in-Ok.ensures told denials (seen ∙ all_watched whole.setup whole.journal end c.args.most within)
-        ∙ ap (λ l. l ++ explanations_text whole.setup whole.journal c.args.most) c.new-text.ensures.bytes
+    ∙ ap (λ l. l ++ explanations_text whole.setup whole.journal c.args.most) c.new-text.ensures.bytes

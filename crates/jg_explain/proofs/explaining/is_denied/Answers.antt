@@ -8,4 +8,4 @@ returns-in-Some-rule g c =
     let whole = c.args.guard.now in
     let place = c.args.place in
     one_cause whole.setup (as_it_was place whole.journal) (slice_get (reverse whole.journal) place) c.in-Some.entry.now c.in-Some-rule.field-0
-        c.in-Some.ensures.entry c.in-Some-rule.ensures
+    c.in-Some.ensures.entry c.in-Some-rule.ensures

@@ -15,4 +15,4 @@ returns c s journal legal within sound is given =
     let made = subst (λ (o : Option ℕ). IfSome o (Was s journal asked false true)) c.in-Some.is sound.made in
     let ended = subst (λ (o : Option ℕ). IfSome o (Was s journal asked true false)) c.in_ok-ended.was sound.ended in
     sym (since_ended s journal legal asked sound.once c.in-Some.made c.in_ok-ended.ended c.args.place (omega (arith, c.if-made-ended.false))
-        (omega (arith, c.if-ended-place.false)) within made ended)
+    (omega (arith, c.if-ended-place.false)) within made ended)

@@ -17,7 +17,7 @@ returns-in-Ok-take_call-clause-front g c =
       legal = c.take_call.ensures.legal c.journal_len-same.ensures.legal;
     } in
     one_more_of c.args.guard.now old new c.args.place c.in-Some.entry.now c.tid.result c.env.result c.in-Ok.call outcome c.tid.ensures c.env.ensures copied
-        c.journal_len-legal.ensures.legal
+    c.journal_len-legal.ensures.legal
     c.requires.front (sym c.in-Some.ensures.entry) takes
 
 pub returns-in-Ok-take_call-clause-logged : goal.returns-in-Ok-take_call-clause-logged

@@ -24,11 +24,11 @@ returns-clause-retells g c =
     ap (λ (n : ℕ). as_it_was n after) count ∙ (alike _ _ _ _ h after _ c.replay_journal-replayed.result finds leaves).same in
     let holds = g.W.Write.contents in
     let writes : StatedSetup → List Entry → Type 0 = λ s journal. WritesRecord s journal (holds c.args.writer.now.device) (holds c.retell.new.writer.device)
-        in (
+    in (
       h,
       history,
       finds,
       subst (λ (journal : List Entry). writes c.args.guard.now.setup journal) same
           (subst (λ (s : StatedSetup). writes s (as_it_was c.entries_alike-count.result after)) c.replay_journal-replayed.ensures.setup
-              c.in_default.ensures.written),
+          c.in_default.ensures.written),
     )

@@ -13,13 +13,13 @@ loop-place-preserved g c =
       written = λ bytes before.
           one_written c.args.guard.now.setup c.args.guard.now.journal c.loop-place.place c.in-Some.entry.now bytes (holds c.loop-place.writer.device)
           (holds c.write_entry.new.writer.device) (sym c.in-Some.ensures.entry) (c.loop-place.invariant.written bytes before)
-              c.in_default-write_entry.ensures.written;
+          c.in_default-write_entry.ensures.written;
     }
 
 pub returns-in-Err-clause-device : goal.returns-in-Err-clause-device
 returns-in-Err-clause-device g c =
     still_fails c.args.writer.now.failed c.loop-place.writer.failed c.write_entry.new.writer.failed c.in-Err.fault c.loop-place.invariant.sound
-        c.in-Err.ensures.device
+    c.in-Err.ensures.device
 
 pub returns-in-Err-clause-stops : goal.returns-in-Err-clause-stops
 returns-in-Err-clause-stops g c = λ bytes before. (

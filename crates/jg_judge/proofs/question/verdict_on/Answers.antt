@@ -9,7 +9,7 @@ use Rattle.jg_judge.proofs.question.verdict_on.Goals as goal
 pub returns-in-Some : goal.returns-in-Some
 returns-in-Some g c = λ p stands.
     c.by_its_caller.ensures ∙ of_caller c.args.bounds c.args.view.now.setup.now p c.args.tid.0 c.args.env (columns c.args.row.now) c.args.arguments.now
-        c.in-Some.rule
+    c.in-Some.rule
     (sym c.in-Some.is ∙ c.first_of_caller.ensures p stands)
 
 pub returns-in-Some-first_broken : goal.returns-in-Some-first_broken
@@ -17,10 +17,10 @@ returns-in-Some-first_broken g c = λ p stands.
     let none : c.first_of_caller.result ≡ None = search rules in
     let found = c.in-Some-look_over.ensures.found p stands in
     let places = places_from c.args.view.now.setup.now p c.args.tid.0 (beside_of c.args.bounds p c.args.arguments.now) 0
-        (paired (columns c.args.row.now).takes c.args.arguments.now) in
+    (paired (columns c.args.row.now).takes c.args.arguments.now) in
     ap (by_rule c.in-Some-look_over.found.named) (sym c.in-Some-first_broken.is)
     ∙ of_others c.args.bounds c.args.view.now.setup.now p c.args.tid.0 c.args.env (columns c.args.row.now) c.args.arguments.now c.in-Some-look_over.found.named
-        c.first_broken.result
+    c.first_broken.result
     (sym (c.first_of_caller.ensures p stands) ∙ none) (sym c.in-Some-look_over.ensures.suits) found.named (c.first_broken.ensures p places stands found.broken)
 
 pub returns-in-None : goal.returns-in-None
@@ -28,8 +28,8 @@ returns-in-None g c = λ p stands.
     let none : c.first_of_caller.result ≡ None = search rules in
     let found = c.in-Some-look_over.ensures.found p stands in
     let places = places_from c.args.view.now.setup.now p c.args.tid.0 (beside_of c.args.bounds p c.args.arguments.now) 0
-        (paired (columns c.args.row.now).takes c.args.arguments.now) in
+    (paired (columns c.args.row.now).takes c.args.arguments.now) in
     ap (by_rule c.in-Some-look_over.found.named) (sym c.in-None.is)
     ∙ of_others c.args.bounds c.args.view.now.setup.now p c.args.tid.0 c.args.env (columns c.args.row.now) c.args.arguments.now c.in-Some-look_over.found.named
-        c.first_broken.result
+    c.first_broken.result
     (sym (c.first_of_caller.ensures p stands) ∙ none) (sym c.in-Some-look_over.ensures.suits) found.named (c.first_broken.ensures p places stands found.broken)

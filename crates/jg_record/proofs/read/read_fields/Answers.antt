@@ -14,7 +14,7 @@ returns-in-Some-first_env-clause-fault c =
     let first = rw c.in-Some-rest.is at c.in-Some.ensures.some in
     let split = first ∙ ap (λ (fs : List (List ℕ)). tid_text c.in-Some.tid ∷ fs) c.in-Some-first_env.ensures.some in
     IfErr-weaker c.read_question.result _ _
-        (question_named c.args.setup.now c.args.text.now (record { short = c.requires.short; printable = c.requires.printable }) c.in-Some.tid
+    (question_named c.args.setup.now c.args.text.now (record { short = c.requires.short; printable = c.requires.printable }) c.in-Some.tid
     c.in-Some-first_env.env _ c.in-Some.ensures.fits c.in-Some-first_env.ensures.fits split) c.read_question.ensures.err
 
 pub returns-in-Some-verb_named-clause-spelt : goal.returns-in-Some-verb_named-clause-spelt
@@ -28,7 +28,7 @@ returns-in-Some-verb_named-clause-spelt c =
       split = first ∙ ap (λ (fs : List (List ℕ)). tid_text c.in-Some.tid ∷ fs) second;
     } in
     words_spelt c.args.setup.now c.args.text.now c.read_words.result c.in-Some.tid c.in-Some-verb_named.verb (rest_fields (option_copied c.cut.result.1)) _ _
-        told c.read_words.ensures.ok
+    told c.read_words.ensures.ok
 
 pub returns-in-Some-verb_named-clause-fault : goal.returns-in-Some-verb_named-clause-fault
 returns-in-Some-verb_named-clause-fault c =
@@ -41,5 +41,5 @@ returns-in-Some-verb_named-clause-fault c =
       split = first ∙ ap (λ (fs : List (List ℕ)). tid_text c.in-Some.tid ∷ fs) second;
     } in
     IfErr-weaker c.read_words.result _ _
-        (words_named c.args.setup.now c.args.text.now (record { short = c.requires.short; printable = c.requires.printable }) c.in-Some.tid
+    (words_named c.args.setup.now c.args.text.now (record { short = c.requires.short; printable = c.requires.printable }) c.in-Some.tid
     c.in-Some-verb_named.verb (rest_fields (option_copied c.cut.result.1)) told) c.read_words.ensures.err

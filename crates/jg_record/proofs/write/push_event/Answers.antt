@@ -16,9 +16,12 @@ truncate-requires c = λ _. cut_place _ _ c.in-Ok.ensures.tail _ c.in-Ok.ensures
 
 pub returns-then-as_str-start-gt-MAX_LINE-clause-unwritten : goal.returns-then-as_str-start-gt-MAX_LINE-clause-unwritten
 returns-then-as_str-start-gt-MAX_LINE-clause-unwritten c =
-    let long = longer _ _ _ _ _ _ _ c.in-Ok.ensures in
-    (84 ∷ c.in-Ok.ensures.tail, omega
-        (arith, long, ap length c.as_str-start.ensures.value, ap length c.as_str.ensures.value, c.if-as_str-start-gt-MAX_LINE.true), c.in-Ok.ensures.is)
+    let long = longer _ _ _ _ _ _ _ c.in-Ok.ensures in (
+      84 ∷ c.in-Ok.ensures.tail,
+      omega
+          (arith, long, ap length c.as_str-start.ensures.value, ap length c.as_str.ensures.value, c.if-as_str-start-gt-MAX_LINE.true),
+      c.in-Ok.ensures.is,
+    )
 
 pub returns-then-as_str-start-gt-MAX_LINE-clause-kept : goal.returns-then-as_str-start-gt-MAX_LINE-clause-kept
 returns-then-as_str-start-gt-MAX_LINE-clause-kept c =

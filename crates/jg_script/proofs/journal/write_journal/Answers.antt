@@ -6,7 +6,7 @@ pub returns-in-Err-clause-writes : goal.returns-in-Err-clause-writes
 returns-in-Err-clause-writes g c =
     let holds = g.W.Write.contents in
     not_written (holds c.args.writer.now.device) (holds c.loop-place.writer.device) (holds c.write_line.new.writer.device) c.args.guard.now.journal
-        c.loop-place.place c.in-Some.entry.now
+    c.loop-place.place c.in-Some.entry.now
     (sym c.in-Some.ensures.entry) c.in-Err.fault c.loop-place.invariant.written c.in-Err.ensures.writes
 
 pub loop-place-preserved : goal.loop-place-preserved

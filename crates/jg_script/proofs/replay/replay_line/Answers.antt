@@ -13,7 +13,7 @@ pub returns-in-Err-clause-replays : goal.returns-in-Err-clause-replays
 returns-in-Err-clause-replays g c =
     let some = c.in-Some in
     not_taken c.args.guard.now c.take_call.new.guard (next_entry c.args.guard.now some.tid some.env some.call) c.args.text.now c.args.line c.in-Err.fault
-        c.requires c.in-Err.ensures.err
+    c.requires c.in-Err.ensures.err
 
 pub returns-in_default-push_entry-clause-replays : goal.returns-in_default-push_entry-clause-replays
 returns-in_default-push_entry-clause-replays g c =
@@ -27,7 +27,7 @@ returns-then-is_line_of-clause-replays g c =
     let took = c.in_default-take_call.ensures.took in
     let made = rw c.clear.ensures.bytes at c.in-Ok-push_entry.ensures.written in
     let told = newest_told c.args.guard.now c.take_call.new.guard (next_entry c.args.guard.now some.tid some.env some.call) c.newest.result.now
-        (string_bytes c.push_entry.new.out) took
+    (string_bytes c.push_entry.new.out) took
     c.newest.ensures
     c.in-Ok-push_entry.ensures.fits made in
     is_its_line c.args.guard.now c.take_call.new.guard c.args.text.now c.as_bytes.result.now some.tid some.env some.call c.args.line begun told.1 took
@@ -40,7 +40,7 @@ returns-else-is_line_of-clause-replays g c =
     let took = c.in_default-take_call.ensures.took in
     let made = rw c.clear.ensures.bytes at c.in-Ok-push_entry.ensures.written in
     let told = newest_told c.args.guard.now c.take_call.new.guard (next_entry c.args.guard.now some.tid some.env some.call) c.newest.result.now
-        (string_bytes c.push_entry.new.out) took
+    (string_bytes c.push_entry.new.out) took
     c.newest.ensures
     c.in-Ok-push_entry.ensures.fits made in
     is_other_line c.args.guard.now c.take_call.new.guard c.args.text.now c.as_bytes.result.now some.tid some.env some.call c.args.line begun told.1 took

@@ -12,7 +12,7 @@ use Rattle.jg_shell.proofs.compare.first_untold_entry.Goals as goal
 pub is_told-requires : goal.is_told-requires
 is_told-requires g c =
     All-weaker (IsRightWorker c.args.guard.now.journal) (λ (w : Work). PlacesRise w.receipts)
-        (λ w right. Stand-rise c.args.guard.now.journal 0 w.receipts right.stand) c.args.workers.now c.requires
+    (λ w right. Stand-rise c.args.guard.now.journal 0 w.receipts right.stand) c.args.workers.now c.requires
 
 pub returns-then-not-is_told : goal.returns-then-not-is_told
 returns-then-not-is_told g c = record {

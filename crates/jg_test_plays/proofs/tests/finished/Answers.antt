@@ -11,4 +11,4 @@ finish-requires g c =
     let same : length new ≡ length old = omega (arith, c.play.auto.workers, ap (λ (ws : List Work). length ws) lent) in
     let ran = subst (λ (ws : List Work). EachRan c.args.turns ws new) lent c.play.ensures in
     subst AreApart (sym (kept c.in_ok-shared.workers.len old new (omega (arith, c.in_ok-shared.workers.ok)) same))
-        (still_apart c.args.turns old new same ran c.in_ok-shared.ensures.apart)
+    (still_apart c.args.turns old new same ran c.in_ok-shared.ensures.apart)

@@ -13,4 +13,4 @@ returns-in-Err-clause-written g c =
     let text = c.deref.ensures.value ∙ c.in-Ok-make_line.ensures ∙ shown_is c.args.shown _ _ _ c.args.reply seen c.answer_of-answer.ensures in
     reply_stops _ _ _ _ _ c.args.line c.in-Err.stop agreed
     (subst (λ (t : List ℕ). WritesLine t (holds c.args.writer.now.device) (holds c.write_line.new.writer.device) c.args.line (Err c.in-Err.stop)) text
-        c.in-Err.ensures.written)
+    c.in-Err.ensures.written)

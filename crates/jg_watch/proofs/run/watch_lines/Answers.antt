@@ -24,7 +24,7 @@ pub count-requires-clause-tally : goal.count-requires-clause-tally
 count-requires-clause-tally g c k =
     let h = c.loop-line.invariant.watched in
     subst (λ (t : List ℕ). slice_index_or t k 0 < 2 ^ 64 - 1) (sym c.answer_next.ensures.tally)
-        (fits h.lines _ k h.counted (omega (arith, h.number, c.loop-line-test.true, c.loop-line.auto.line-end)))
+    (fits h.lines _ k h.counted (omega (arith, h.number, c.loop-line-test.true, c.loop-line.auto.line-end)))
 
 pub count-requires-clause-denied : goal.count-requires-clause-denied
 count-requires-clause-denied g c =
@@ -37,7 +37,7 @@ returns-in-Ok-Ended-clause-watches g c =
     let h = still _ c.args.shown _ _ _ _ _ _ _ _ _ inv.watched c.hand_over.ensures.kept in
     let ends = rw c.in-Ok-Ended.field-0-is at (c.in-Ok-Ended.ensures.answers h.told h.stands) in
     ended_at _ _ c.args.shown _ _ _ _ _ _ _ c.loop-line.watch _ _ _ _ (Ok c.in-Ok-Ended.ended) h inv.setup c.answer_next.ensures.tally
-        c.answer_next.ensures.denied ends.0 ends.1
+    c.answer_next.ensures.denied ends.0 ends.1
 
 pub returns-in-Err-clause-watches : goal.returns-in-Err-clause-watches
 returns-in-Err-clause-watches g c =
@@ -52,8 +52,8 @@ loop-line-preserved g c =
     let h = still _ c.args.shown _ _ _ _ _ _ _ _ _ inv.watched c.hand_over.ensures.kept in
     let answers = rw c.in-Ok-Answered.field-0-is at (c.in-Ok-Answered.ensures.answers h.told h.stands) in
     let what : StatedSetup → List ℕ
-        → Option What = λ s text. what_of s text c.in-Ok-Answered.replied.event c.in-Ok-Answered.replied.reply c.answer_next.new.room.lists.arguments.items
-        c.answer_next.new.room.lists.objects.items in
+    → Option What = λ s text. what_of s text c.in-Ok-Answered.replied.event c.in-Ok-Answered.replied.reply c.answer_next.new.room.lists.arguments.items
+    c.answer_next.new.room.lists.objects.items in
     let setup = ap (λ (w : Watching). w.core.setup) c.watch.view_is ∙ c.answer_next.ensures.setup in
     let advised = subst (λ (s : StatedSetup). (hist : List Moment) → LogStandsIf c.loop-line.log hist
     → CoreStands c.watch.inside.core (facts_of (with_moment c.loop-line.line (what s c.answer_next.new.text.items) hist))
@@ -66,10 +66,10 @@ loop-line-preserved g c =
       watched = goes_on _ _ c.args.shown _ _ _ _ _ _ _ c.loop-line.watch c.answer_next.new.watch _ _ _ _ c.in-Ok-Answered.replied _ _ _ _ h inv.setup answers
           c.answer_next.ensures.tally
           c.answer_next.ensures.denied (rw c.denied.ensures at c.note.ensures) c.count.ensures.tally c.count.ensures.denied c.count.ensures.core
-              c.count.ensures.bounds
+          c.count.ensures.bounds
           (λ hist logs stands. advised hist logs
-              (subst (λ (k : CoreState). CoreStands k
-              (facts_of (with_moment c.loop-line.line (what c.loop-line.watch.core.setup c.answer_next.new.text.items) hist)))
+          (subst (λ (k : CoreState). CoreStands k
+          (facts_of (with_moment c.loop-line.line (what c.loop-line.watch.core.setup c.answer_next.new.text.items) hist)))
           (sym (ap (λ (w : Watching). w.core) c.watch.view_is)) stands));
       setup = ap (λ (x : CoreState). x.setup) c.count.ensures.core ∙ c.answer_next.ensures.setup ∙ inv.setup;
       most = c.note.ensures.most ∙ inv.most;

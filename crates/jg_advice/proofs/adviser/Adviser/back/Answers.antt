@@ -12,8 +12,8 @@ use Rattle.jg_advice.proofs.adviser.Adviser.back.Goals as goal
 pub returns-clause-advised : goal.returns-clause-advised
 returns-clause-advised g c = λ h p stands sees.
     subst (λ (most : ℕ). (told : List Advice)
-        × IsOnFact most (record { line = c.args.line; what = Told (Back c.args.buffer); parts = p }) h (Back c.args.buffer) told
-        × (c.push_if.new.out.items ≡ c.args.out.now.items ++ told))
+    × IsOnFact most (record { line = c.args.line; what = Told (Back c.args.buffer); parts = p }) h (Back c.args.buffer) told
+    × (c.push_if.new.out.items ≡ c.args.out.now.items ++ told))
     (ap (λ (v : AdviserState). v.most) c.self.view_is)
     (fact_advised _ h p c.args.line (Back c.args.buffer) (subst (λ (v : AdviserState). Stands v h) (sym c.self.view_is) stands) [] []
     c.args.out.now.items c.args.out.now.items c.push_if.new.out.items c.push_if.new.out.items c.push_if.new.out.items
@@ -25,4 +25,4 @@ pub returns-clause-stands : goal.returns-clause-stands
 returns-clause-stands g c = λ h p stands sees.
     fact_stands _ h p c.args.line (Back c.args.buffer) (subst (λ (v : AdviserState). Stands v h) (sym c.self.view_is) stands) _
     (c.in_ok-note_region.ensures p sees) (λ q. refl) c.remove-written.ensures.drops c.remove-committed.ensures.drops c.remove-committed.ensures.once
-        (λ q. refl) refl refl
+    (λ q. refl) refl refl

@@ -37,16 +37,16 @@ returns-clause-stands g c = λ h p stands tells.
     (subst (λ (v : AdviserState). Stands v h) (sym c.self.view_is) stands) _
     (subst (λ (throws : Bool). (q : Name) → kept c.note_call.new.doings q
     ≡ (if same_name (c.args.tid.0, depth p c.args.tid.0) q then doing_after (Some row) throws call (kept c.self.inside.doings q)
-        else kept c.self.inside.doings q))
+    else kept c.self.inside.doings q))
     (c.may_throw-throws.ensures p tells)
     (subst (λ (name : Name). (q : Name) → kept c.note_call.new.doings q
     ≡ (if same_name name q then doing_after (Some row) c.may_throw-throws.result call (kept c.self.inside.doings q) else kept c.self.inside.doings q))
     (ap (λ d. (c.args.tid.0, d)) (c.depth.ensures.history p.locals tells.locals)) c.in_ok-before.ensures.noted))
     (λ q. c.in_ok-note_written.ensures p sees q
     ∙ ap (λ r. if commits q r then None else (if is_named q buffer && is_copy p buffer then Some call else found c.self.inside.written q))
-        c.released_by-release.ensures
+    c.released_by-release.ensures
     ∙ ap (λ b. if commits q release then None else (if is_named q b && is_copy p b then Some call else found c.self.inside.written q))
-        c.written_by-buffer.ensures)
+    c.written_by-buffer.ensures)
     (λ q. c.in_ok-note_committed.ensures.found q ∙ ap (λ r. if commits q r then Some call else found c.self.inside.committed q) c.released_by-release.ensures)
     c.in_ok-note_committed.ensures.once
     refl refl

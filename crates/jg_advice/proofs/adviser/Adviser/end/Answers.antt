@@ -15,7 +15,7 @@ returns-clause-advised g c = λ h p stands sees.
     let buffers = c.in_ok-push_at_end.ensures in
     let monitors = c.in_ok-push_at_end-2.ensures in
     subst (λ (most : ℕ). (told : List Advice) × IsOnFact most (record { line = c.args.line; what = Told (End c.args.tid); parts = p }) h (End c.args.tid) told
-        × (c.push_at_end-2.new.out.items ≡ c.args.out.now.items ++ told))
+    × (c.push_at_end-2.new.out.items ≡ c.args.out.now.items ++ told))
     (ap (λ (v : AdviserState). v.most) c.self.view_is)
     (fact_advised _ h p c.args.line (End c.args.tid) (subst (λ (v : AdviserState). Stands v h) (sym c.self.view_is) stands) buffers.0 monitors.0
     c.args.out.now.items c.push_at_end.new.out.items c.push_if.new.out.items c.push_at_end-2.new.out.items c.push_at_end-2.new.out.items

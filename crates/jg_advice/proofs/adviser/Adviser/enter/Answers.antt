@@ -16,5 +16,5 @@ returns-clause-stands g c = λ h p line stands sees.
     (λ q. doing_gone c.self.inside.doings c.remove-ended.new.tables q (same_name (c.args.tid.0, depth p c.args.tid.0) q)
     (c.remove-ended.ensures.drops q
     ∙ ap (λ d. if same_name (c.args.tid.0, d) q then None else lookup (same_name q) (named c.self.inside.doings))
-        (c.depth.ensures.history p.locals sees.locals)))
+    (c.depth.ensures.history p.locals sees.locals)))
     refl refl

@@ -13,8 +13,8 @@ use Rattle.jg_advice.proofs.adviser.Adviser.lend.Goals as goal
 pub returns-clause-advised : goal.returns-clause-advised
 returns-clause-advised g c = on_ok_weaker c.note_region.result (λ any h p f o via n stands sees.
     subst (λ (most : ℕ). (told : List Advice)
-        × IsOnFact most (record { line = c.args.line; what = Told (Lend c.args.tid f o via n); parts = p }) h (Lend c.args.tid f o via n) told
-        × (c.push_if.new.out.items ≡ c.args.out.now.items ++ told))
+    × IsOnFact most (record { line = c.args.line; what = Told (Lend c.args.tid f o via n); parts = p }) h (Lend c.args.tid f o via n) told
+    × (c.push_if.new.out.items ≡ c.args.out.now.items ++ told))
     (ap (λ (v : AdviserState). v.most) c.self.view_is)
     (fact_advised _ h p c.args.line (Lend c.args.tid f o via n) (subst (λ (v : AdviserState). Stands v h) (sym c.self.view_is) stands) [] []
     c.args.out.now.items c.args.out.now.items c.push_if.new.out.items c.push_if.new.out.items c.push_if.new.out.items

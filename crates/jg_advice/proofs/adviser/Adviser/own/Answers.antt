@@ -13,5 +13,5 @@ returns-clause-stands g c = on_ok_weaker c.note_entry.result (λ noted h p stand
     fact_stands _ h p c.args.line (Own c.args.tid c.args.object) (subst (λ (v : AdviserState). Stands v h) (sym c.self.view_is) stands) _
     (λ u. refl)
     (λ q. noted q ∙ ap (λ call. if same_name (c.args.tid.0, c.args.object.0) q then or_source (found c.self.inside.entered q) call
-        else found c.self.inside.entered q) (c.cause-call.ensures p sees))
+    else found c.self.inside.entered q) (c.cause-call.ensures p sees))
     (λ q. refl) (λ q. refl) (λ q once. once) (λ q. refl) refl refl) c.note_entry.ensures

@@ -10,8 +10,12 @@ pub returns-in-Ok-clause-logs : goal.returns-in-Ok-clause-logs
 returns-in-Ok-clause-logs g c = λ h p logs tells.
     let before : LogStands (record { adviser = c.self.inside.adviser; lost = c.self.inside.lost; noting = c.self.inside.advices }) h =
     subst (λ (v : AdviceLogState). LogStands v h) (sym c.self.view_is) logs in
-    let m : Moment = record { line = c.args.line; what =
-        Called c.args.view.now.setup.now c.args.tid c.args.function c.args.arguments.now c.args.name.now; parts = p } in
+    let m : Moment = record {
+      line = c.args.line;
+      what =
+          Called c.args.view.now.setup.now c.args.tid c.args.function c.args.arguments.now c.args.name.now;
+      parts = p;
+    } in
     let newer : List Advice = on_call c.args.line c.args.tid c.args.function c.args.arguments.now c.args.name.now p h in
     let free : c.self.inside.lost ≡ false = c.if-self.false in
     record {

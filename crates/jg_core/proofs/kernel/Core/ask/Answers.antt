@@ -16,7 +16,7 @@ returns-in-Misfit g c = λ w stands.
     let row_is : slice_get functions c.args.function ≡ Some (columns c.in-Some.row.now) = search rules in
     let told = viewed c.args.self.now c.view-view.result w setup_is rows_is stands in
     answered c.args.bounds c.view-view.result.setup.now (parts_of w) c.args.tid c.args.env c.args.function (columns c.in-Some.row.now) c.args.arguments.now _
-        row_is
+    row_is
     (c.in-Misfit.ensures (parts_of w) told) ∙ ap (λ s. asked c.args.bounds s (parts_of w) c.args.tid c.args.env c.args.function c.args.arguments.now) setup_is
 
 pub returns-in-Broken : goal.returns-in-Broken
@@ -27,7 +27,7 @@ returns-in-Broken g c = λ w stands.
     let told = viewed c.args.self.now c.view-view.result w setup_is rows_is stands in
     ap (Denied c.in-Broken.field-0.rule c.in-Broken.field-0.operand) (c.denied_ticket-ticket.ensures (parts_of w) told)
     ∙ (answered c.args.bounds c.view-view.result.setup.now (parts_of w) c.args.tid c.args.env c.args.function (columns c.in-Some.row.now) c.args.arguments.now
-        (Broken c.in-Broken.field-0) row_is
+    (Broken c.in-Broken.field-0) row_is
     (c.in-Broken.ensures (parts_of w) told) ∙ ap (λ s. asked c.args.bounds s (parts_of w) c.args.tid c.args.env c.args.function c.args.arguments.now) setup_is)
 
 pub returns-in-Passed : goal.returns-in-Passed
@@ -38,9 +38,9 @@ returns-in-Passed g c = λ w stands.
     let told = viewed c.args.self.now c.view-view.result w setup_is rows_is stands in
     let named_is =
     passed_names c.args.bounds c.view-view.result.setup.now (parts_of w) c.args.tid.0 c.args.env (columns c.in-Some.row.now) c.args.arguments.now
-        c.in-Passed.named
+    c.in-Passed.named
     (c.in-Passed.ensures (parts_of w) told) in
     ap (λ e. Passed (record { tid = c.args.tid; expected = e })) (c.expected_of.ensures (parts_of w) told named_is)
     ∙ (answered c.args.bounds c.view-view.result.setup.now (parts_of w) c.args.tid c.args.env c.args.function (columns c.in-Some.row.now) c.args.arguments.now _
-        row_is
+    row_is
     (c.in-Passed.ensures (parts_of w) told) ∙ ap (λ s. asked c.args.bounds s (parts_of w) c.args.tid c.args.env c.args.function c.args.arguments.now) setup_is)

@@ -27,6 +27,6 @@ returns-clause-ok g c =
       stands = λ w was.
           let stands : CoreStands state w = subst (λ s. CoreStands s w) (sym c.self.view_is) was in
           told_all state (record { setup = c.self.inside.setup; rows = rows_of c.let_all_go.new.tables; made = c.self.inside.made }) c.args.objects.now w stands
-              refl refl
+          refl refl
           (c.in_ok-let_all_go.ensures.all (parts_of w) stands.tables) (c.in_ok-let_all_go.ensures.ok (parts_of w) stands.tables);
     }

@@ -11,4 +11,4 @@ pub given_for-out-requires : goal.given_for-out-requires
 given_for-out-requires g c = λ t.
     let state : CoreState = record { setup = c.self.inside.setup; rows = rows_of c.self.inside.tables; made = c.self.inside.made } in
     subst (λ (r : RowsBeside Rows). CanCount r.threads t) (sym c.view-view.ensures.rows)
-        (core_counts state c.self.invariant.told t c.self.invariant.stands c.self.invariant.few)
+    (core_counts state c.self.invariant.told t c.self.invariant.stands c.self.invariant.few)

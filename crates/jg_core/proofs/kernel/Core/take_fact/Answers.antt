@@ -13,7 +13,7 @@ take-requires g c =
     let found : c.can_be.result ≡ true = search rules in
     let can : can_be state.setup (parts_of w) c.args.fact ≡ true =
     told_by state.setup _ state.rows _ c.args.fact (parts_of w) c.can_be.result c.view.ensures.setup c.view.ensures.rows c.can_be.ensures
-        c.self.invariant.stands.tables ∙ found in
+    c.self.invariant.stands.tables ∙ found in
     due state w c.args.fact c.self.invariant.stands c.self.invariant.few can
 
 pub invariant_of-self-then-made-2 : goal.invariant_of-self-then-made-2
@@ -23,7 +23,7 @@ invariant_of-self-then-made-2 g c =
     let found : c.can_be.result ≡ true = search rules in
     let can : can_be state.setup (parts_of w) c.args.fact ≡ true =
     told_by state.setup _ state.rows _ c.args.fact (parts_of w) c.can_be.result c.view.ensures.setup c.view.ensures.rows c.can_be.ensures
-        c.self.invariant.stands.tables ∙ found in
+    c.self.invariant.stands.tables ∙ found in
     let made : makes c.args.fact ≡ true = search rules in
     record {
       told = c.args.fact ∷ w;
@@ -41,7 +41,7 @@ invariant_of-self-else-made-2 g c =
     let found : c.can_be.result ≡ true = search rules in
     let can : can_be state.setup (parts_of w) c.args.fact ≡ true =
     told_by state.setup _ state.rows _ c.args.fact (parts_of w) c.can_be.result c.view.ensures.setup c.view.ensures.rows c.can_be.ensures
-        c.self.invariant.stands.tables ∙ found in
+    c.self.invariant.stands.tables ∙ found in
     let made : makes c.args.fact ≡ false = search rules in
     record {
       told = c.args.fact ∷ w;

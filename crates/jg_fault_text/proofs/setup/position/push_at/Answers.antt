@@ -11,6 +11,6 @@ returns c =
     let column = c.column_behind.result in
     let old = string_bytes c.args.out.now in
     let pieces = five (codes "line ") (decimal line) (codes ", column ") (decimal column) (codes ": ")
-        ∙ position_is front line column c.line_behind.ensures c.column_behind.ensures in
+    ∙ position_is front line column c.line_behind.ensures c.column_behind.ensures in
     at_added c.push_str-2.result front c.args.words.now old (c.in_ok-push_pieces.ensures.text ∙ ap (λ it. old ++ it) pieces) c.in_ok-push_str.ensures.bytes
-        c.push_str-2.ensures.bytes
+    c.push_str-2.ensures.bytes

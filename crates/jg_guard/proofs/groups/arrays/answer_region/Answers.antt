@@ -17,7 +17,7 @@ pub returns-then-is_outside : goal.returns-then-is_outside
 returns-then-is_outside g c = λ p stands.
     let whole : ℕ = length_of c.args.view.now.setup.now p (the_object p c.args.tid.0 c.args.array) in
     let long : length c.items_of-items.result.now ≡ whole =
-        c.items_of-items.ensures.len p stands ∙ ap (length_of c.args.view.now.setup.now p) (c.the_object.ensures p stands) in
+    c.items_of-items.ensures.len p stands ∙ ap (length_of c.args.view.now.setup.now p) (c.the_object.ensures p stands) in
     let told : is_outside c.args.start c.args.count (length c.items_of-items.result.now) ≡ true = search rules in
     let outside : is_outside c.args.start c.args.count whole ≡ true = ap (is_outside c.args.start c.args.count) (sym long) ∙ told in
     rw outside (c.throwing.ensures p stands)

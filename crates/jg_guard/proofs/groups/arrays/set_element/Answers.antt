@@ -13,14 +13,14 @@ pub set_element-requires-clause-made : goal.set_element-requires-clause-made
 set_element-requires-clause-made g c =
     let there = set_element_due _ _ _ c.args.array c.args.index c.args.value c.requires.due in
     let object = c.the_object-object.ensures c.requires.due.events
-        (stand_at _ _ _ _ c.requires.due.events c.view.ensures.setup c.view.ensures.rows c.requires.due.stand) in
+    (stand_at _ _ _ _ c.requires.due.events c.view.ensures.setup c.view.ensures.rows c.requires.due.stand) in
     rw object there.made
 
 pub set_element-requires-clause-takes : goal.set_element-requires-clause-takes
 set_element-requires-clause-takes g c =
     let there = set_element_due _ _ _ c.args.array c.args.index c.args.value c.requires.due in
     let object = c.the_object-object.ensures c.requires.due.events
-        (stand_at _ _ _ _ c.requires.due.events c.view.ensures.setup c.view.ensures.rows c.requires.due.stand) in
+    (stand_at _ _ _ _ c.requires.due.events c.view.ensures.setup c.view.ensures.rows c.requires.due.stand) in
     rw object there.class
 
 pub set_element-requires-clause-within : goal.set_element-requires-clause-within
@@ -31,7 +31,7 @@ set_element-requires-clause-within g c =
     let whole : ℕ = length_of c.args.setup.now p (the_object p c.args.tid.0 c.args.array) in
     let inside : natural c.args.index + 1 ≤ whole =
     within c.args.index (pos 1) whole
-        (not_outside c.args.setup.now p ArrayIndexOutOfBounds (is_outside c.args.index (pos 1) whole) (plain Done) c.requires.effective) in
+    (not_outside c.args.setup.now p ArrayIndexOutOfBounds (is_outside c.args.index (pos 1) whole) (plain Done) c.requires.effective) in
     let below : natural c.args.index < whole = omega (arith, inside) in
     let place : c.natural.result ≡ natural c.args.index = search rules in
     rw (place, object, there.len) below

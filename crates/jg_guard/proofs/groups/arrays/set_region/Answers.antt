@@ -13,14 +13,14 @@ pub set_region-requires-clause-made : goal.set_region-requires-clause-made
 set_region-requires-clause-made g c =
     let there = set_region_due _ _ _ c.args.element c.args.array c.args.start c.args.values.now c.requires.due in
     let object = c.the_object-object.ensures c.requires.due.events
-        (stand_at _ _ _ _ c.requires.due.events c.view.ensures.setup c.view.ensures.rows c.requires.due.stand) in
+    (stand_at _ _ _ _ c.requires.due.events c.view.ensures.setup c.view.ensures.rows c.requires.due.stand) in
     rw object there.made
 
 pub set_region-requires-clause-array : goal.set_region-requires-clause-array
 set_region-requires-clause-array g c =
     let there = set_region_due _ _ _ c.args.element c.args.array c.args.start c.args.values.now c.requires.due in
     let object = c.the_object-object.ensures c.requires.due.events
-        (stand_at _ _ _ _ c.requires.due.events c.view.ensures.setup c.view.ensures.rows c.requires.due.stand) in
+    (stand_at _ _ _ _ c.requires.due.events c.view.ensures.setup c.view.ensures.rows c.requires.due.stand) in
     rw (object, there.class) (is_primitive c.args.element)
 
 pub set_region-requires-clause-within : goal.set_region-requires-clause-within

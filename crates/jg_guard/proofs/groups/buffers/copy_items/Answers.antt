@@ -16,8 +16,10 @@ items-items-requires-clause-made g c =
 pub items-items-requires-clause-array : goal.items-items-requires-clause-array
 items-items-requires-clause-array g c =
     let there = elements_there _ _ _ c.args.element c.args.array c.requires in
-    rw (c.the_object-object.ensures c.requires.events (stand_at _ _ _ _ c.requires.events c.view.ensures.setup c.view.ensures.rows c.requires.stand),
-        there.class) (is_primitive c.args.element)
+    rw (
+      c.the_object-object.ensures c.requires.events (stand_at _ _ _ _ c.requires.events c.view.ensures.setup c.view.ensures.rows c.requires.stand),
+      there.class,
+    ) (is_primitive c.args.element)
 
 pub open_copy-requires-clause-above : goal.open_copy-requires-clause-above
 open_copy-requires-clause-above g c =
@@ -28,7 +30,7 @@ pub returns-clause-stands : goal.returns-clause-stands
 returns-clause-stands g c = λ p stands.
     let object = c.the_object-object.ensures p (stand_at _ _ _ _ p c.view.ensures.setup c.view.ensures.rows stands) in
     let items = items_are c.args.setup.now _ p c.the_object-object.result.0 c.items-items.result.now stands
-        (c.items-items.ensures.items p.heap stands.heap.stands) in
+    (c.items-items.ensures.items p.heap stands.heap.stands) in
     record {
       threads = stands.threads;
       locals = stands.locals;

@@ -7,7 +7,7 @@ pub array_len-length-requires : goal.array_len-length-requires
 array_len-length-requires g c =
     rw (c.the_object-object.ensures c.requires.events (stand_at _ _ _ _ c.requires.events c.view.ensures.setup c.view.ensures.rows c.requires.stand))
     (array_made _ _ c.requires.events (names c.requires.events c.args.tid.0 c.args.array) c.requires.stand c.requires.unbroken.alive
-        c.requires.unbroken.not_null c.requires.unbroken.right_type)
+    c.requires.unbroken.not_null c.requires.unbroken.right_type)
 
 pub open_pin-requires-clause-above : goal.open_pin-requires-clause-above
 open_pin-requires-clause-above g c =

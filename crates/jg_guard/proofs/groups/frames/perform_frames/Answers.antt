@@ -14,7 +14,7 @@ push-requires-clause-fits g c = can_push c.requires.due.events c.args.tables.now
 pub pop-requires : goal.pop-requires
 pop-requires g c =
     can_pop c.requires.due.events c.args.tables.now.locals.rows c.args.tid.0 c.requires.due.stand.locals
-        (rw c.in-PopLocalFrame.is at c.requires.due.unbroken.right_frame)
+    (rw c.in-PopLocalFrame.is at c.requires.due.unbroken.right_frame)
 
 pub ensure-requires : goal.ensure-requires
 ensure-requires g c =

@@ -10,4 +10,4 @@ exit-requires g c =
     let object = c.the_object-object.ensures due.events (stand_at _ _ _ _ due.events c.view.ensures.setup c.view.ensures.rows due.stand) in
     ap (λ o. owner_in (row_of o c.args.tables.now.monitors)) object
     ∙ owns due.events c.args.tables.now.monitors c.args.tid.0 (names due.events c.args.tid.0 c.args.of) false false due.stand.monitors due.unbroken.alive
-        due.unbroken.not_null due.unbroken.owned
+    due.unbroken.not_null due.unbroken.owned

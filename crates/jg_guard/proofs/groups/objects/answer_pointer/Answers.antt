@@ -7,7 +7,7 @@ pub field_of-requires-clause-named : goal.field_of-requires-clause-named
 field_of-requires-clause-named g c =
     let due = c.requires in
     (has_slot _ _ due.events None (names due.events c.args.tid.0 c.args.object) c.args.field false false due.stand due.stated due.unbroken.alive
-        due.unbroken.not_null
+    due.unbroken.not_null
     due.unbroken.right_field).named
 
 pub field_of-requires-clause-made : goal.field_of-requires-clause-made
@@ -15,7 +15,7 @@ field_of-requires-clause-made g c =
     let due = c.requires in
     rw (c.the_object.ensures due.events due.stand)
     (has_slot _ _ due.events None (names due.events c.args.tid.0 c.args.object) c.args.field false false due.stand due.stated due.unbroken.alive
-        due.unbroken.not_null
+    due.unbroken.not_null
     due.unbroken.right_field).made
 
 pub field_of-requires-clause-fields : goal.field_of-requires-clause-fields
@@ -23,7 +23,7 @@ field_of-requires-clause-fields g c =
     let due = c.requires in
     rw (c.the_object.ensures due.events due.stand)
     (has_slot _ _ due.events None (names due.events c.args.tid.0 c.args.object) c.args.field false false due.stand due.stated due.unbroken.alive
-        due.unbroken.not_null
+    due.unbroken.not_null
     due.unbroken.right_field).fields
 
 pub field_of-requires-clause-within : goal.field_of-requires-clause-within
@@ -31,5 +31,5 @@ field_of-requires-clause-within g c =
     let due = c.requires in
     rw (c.the_object.ensures due.events due.stand)
     (has_slot _ _ due.events None (names due.events c.args.tid.0 c.args.object) c.args.field false false due.stand due.stated due.unbroken.alive
-        due.unbroken.not_null
+    due.unbroken.not_null
     due.unbroken.right_field).within

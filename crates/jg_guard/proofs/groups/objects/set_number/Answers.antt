@@ -10,7 +10,7 @@ pub slot_place_of-requires : goal.slot_place_of-requires
 slot_place_of-requires g c =
     let due = c.requires.due in
     (has_slot _ _ due.events (Some c.args.primitive) (names due.events c.args.tid.0 c.args.object) c.args.field false false due.stand due.stated
-        due.unbroken.alive due.unbroken.not_null
+    due.unbroken.alive due.unbroken.not_null
     due.unbroken.right_field).named
 
 pub set_field-requires-clause-made : goal.set_field-requires-clause-made
@@ -18,7 +18,7 @@ set_field-requires-clause-made g c =
     let due = c.requires.due in
     rw (c.the_object-object.ensures due.events (stand_at _ _ _ _ due.events c.view.ensures.setup c.view.ensures.rows due.stand))
     (has_slot _ _ due.events (Some c.args.primitive) (names due.events c.args.tid.0 c.args.object) c.args.field false false due.stand due.stated
-        due.unbroken.alive due.unbroken.not_null
+    due.unbroken.alive due.unbroken.not_null
     due.unbroken.right_field).made
 
 pub set_field-requires-clause-fields : goal.set_field-requires-clause-fields
@@ -26,7 +26,7 @@ set_field-requires-clause-fields g c =
     let due = c.requires.due in
     rw (c.the_object-object.ensures due.events (stand_at _ _ _ _ due.events c.view.ensures.setup c.view.ensures.rows due.stand))
     (has_slot _ _ due.events (Some c.args.primitive) (names due.events c.args.tid.0 c.args.object) c.args.field false false due.stand due.stated
-        due.unbroken.alive due.unbroken.not_null
+    due.unbroken.alive due.unbroken.not_null
     due.unbroken.right_field).fields
 
 pub set_field-requires-clause-within : goal.set_field-requires-clause-within
@@ -35,7 +35,7 @@ set_field-requires-clause-within g c =
     let place : c.slot_place_of.result ≡ slot_place c.args.field = search rules in
     rw (place, c.the_object-object.ensures due.events (stand_at _ _ _ _ due.events c.view.ensures.setup c.view.ensures.rows due.stand))
     (has_slot _ _ due.events (Some c.args.primitive) (names due.events c.args.tid.0 c.args.object) c.args.field false false due.stand due.stated
-        due.unbroken.alive due.unbroken.not_null
+    due.unbroken.alive due.unbroken.not_null
     due.unbroken.right_field).within
 
 pub returns-clause-stands : goal.returns-clause-stands

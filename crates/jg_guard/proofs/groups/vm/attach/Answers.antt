@@ -12,5 +12,5 @@ attach-requires-else-is_attached g c =
 pub start_thread-requires : goal.start_thread-requires
 start_thread-requires g c =
     rw c.in_ok-reserve_start.ensures.rows
-        (can_start c.requires.due.events c.args.tables.now.locals.rows c.args.tid.0 c.requires.due.ordinary c.requires.due.stand.locals
+    (can_start c.requires.due.events c.args.tables.now.locals.rows c.args.tid.0 c.requires.due.ordinary c.requires.due.stand.locals
     (sym (c.is_attached.ensures.history c.requires.due.events.threads c.requires.due.stand.threads) ∙ c.if-is_attached.false))

@@ -7,7 +7,7 @@ pub enter-requires-clause-started : goal.enter-requires-clause-started
 enter-requires-clause-started g c =
     has_frame c.requires.effective.due.events c.args.tables.now.locals.rows c.args.tid.0 c.requires.effective.due.ordinary c.requires.effective.due.stand.locals
     (attached_caller c.requires.effective.due.events c.args.tid.0 c.requires.effective.due.env _ refl
-        (rw c.in-NativeEnter.is at c.requires.effective.due.unbroken.is_attached))
+    (rw c.in-NativeEnter.is at c.requires.effective.due.unbroken.is_attached))
 
 pub enter-requires-clause-fits : goal.enter-requires-clause-fits
 enter-requires-clause-fits g c =
@@ -17,7 +17,7 @@ pub enter_native-requires-clause-seen : goal.enter_native-requires-clause-seen
 enter_native-requires-clause-seen g c =
     is_on c.requires.effective.due.events c.args.tables.now.threads c.args.tid.0 c.requires.effective.due.stand.threads
     (attached_caller c.requires.effective.due.events c.args.tid.0 c.requires.effective.due.env _ refl
-        (rw c.in-NativeEnter.is at c.requires.effective.due.unbroken.is_attached))
+    (rw c.in-NativeEnter.is at c.requires.effective.due.unbroken.is_attached))
 
 pub enter_native-requires-clause-room : goal.enter_native-requires-clause-room
 enter_native-requires-clause-room g c =
@@ -33,7 +33,7 @@ pub leave_native-requires-clause-seen : goal.leave_native-requires-clause-seen
 leave_native-requires-clause-seen g c =
     is_on c.requires.effective.due.events c.args.tables.now.threads c.args.tid.0 c.requires.effective.due.stand.threads
     (attached_caller c.requires.effective.due.events c.args.tid.0 c.requires.effective.due.env _ refl
-        (rw c.in-NativeLeave.is at c.requires.effective.due.unbroken.is_attached))
+    (rw c.in-NativeLeave.is at c.requires.effective.due.unbroken.is_attached))
 
 pub leave_native-requires-clause-inside : goal.leave_native-requires-clause-inside
 leave_native-requires-clause-inside g c =

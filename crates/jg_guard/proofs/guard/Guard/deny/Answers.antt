@@ -17,7 +17,7 @@ invariant_of-self-2 g c =
     let room : length state.journal < state.limit = subst (λ (s : State). length s.journal < s.limit) (sym c.self.view_is) c.requires.room in
     let denied : verdict state.setup (parts state.setup state.journal) c.args.tid.0 c.args.env c.args.call ≡ Some c.args.rule =
     subst (λ (s : State). verdict s.setup (parts s.setup s.journal) c.args.tid.0 c.args.env c.args.call ≡ Some c.args.rule)
-        (sym c.self.view_is) c.requires.denied in
+    (sym c.self.view_is) c.requires.denied in
     let journal : reverse c.push_reserved.new.journal.items ≡ denied_entry c.args.tid c.args.env c.args.call c.args.rule ∷ state.journal = search rules in
     let x : Entry = denied_entry c.args.tid c.args.env c.args.call c.args.rule in
     let peaks = peaks_same state.setup state.journal x c.self.inside.peaks refl c.self.invariant.1 in (
@@ -25,7 +25,7 @@ invariant_of-self-2 g c =
       subst (λ (j : List Entry). ArePeaks state.setup j c.self.inside.peaks) (sym journal) peaks,
       subst (λ (j : List Entry). IsTally j c.count.new.tally) (sym journal)
           (one_more state.journal x c.self.inside.tally c.count.new.tally c.number.result (search rules) (sym c.number.ensures) c.self.invariant.2
-              c.count.ensures),
+          c.count.ensures),
     )
 
 pub count-requires-clause-fits : goal.count-requires-clause-fits
@@ -39,7 +39,7 @@ returns-clause-ok g c =
     let state : State = state_of c.self.inside.setup c.self.inside.limit c.self.inside.journal in
     let denied : verdict state.setup (parts state.setup state.journal) c.args.tid.0 c.args.env c.args.call ≡ Some c.args.rule =
     subst (λ (s : State). verdict s.setup (parts s.setup s.journal) c.args.tid.0 c.args.env c.args.call ≡ Some c.args.rule)
-        (sym c.self.view_is) c.requires.denied in
+    (sym c.self.view_is) c.requires.denied in
     let x : Entry = denied_entry c.args.tid c.args.env c.args.call c.args.rule in
     let journal : reverse c.push_reserved.new.journal.items ≡ x ∷ state.journal = search rules in
     subst (λ (s : State). Takes s (state_of c.self.inside.setup c.self.inside.limit c.push_reserved.new.journal) x.tid x.env x.call x.outcome)

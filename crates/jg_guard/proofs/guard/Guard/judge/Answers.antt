@@ -19,7 +19,7 @@ returns g c =
     let stands : ViewStands c.view.result p = search rules in
     let setup_is : c.view.result.setup.now ≡ s.setup = search rules in
     let stated : AreStated c.view.result.setup.now p =
-        λ o. subst (λ (x : StatedSetup). class_of x p o < class_count x) (sym setup_is) (classes_are_stated s.setup s.journal o legal) in
+    λ o. subst (λ (x : StatedSetup). class_of x p o < class_count x) (sym setup_is) (classes_are_stated s.setup s.journal o legal) in
     let judged : c.verdict_on_call.result ≡ verdict c.view.result.setup.now p c.args.tid.0 c.args.env c.args.call.now =
-        c.verdict_on_call.ensures p stands stated in
+    c.verdict_on_call.ensures p stands stated in
     judged ∙ ap (λ (x : StatedSetup). verdict x p c.args.tid.0 c.args.env c.args.call.now) setup_is

@@ -38,7 +38,7 @@ perform-requires-clause-answered g c =
     (rows_of c.self.inside.tables) _ c.args.tid c.args.env c.args.call given c.find_held_for.new.findings c.self.invariant.0 c.self.view_is
     c.view-view.ensures.setup c.view-view.ensures.rows c.requires.passed c.in-Ok.ensures.found c.in-Ok-answer_to.ensures.given in
     answered_due g.row.A.Denot state (rows_of c.self.inside.tables) c.args.tid c.args.env c.args.call given _ c.find_held_for.new.findings c.self.invariant.0
-        passed refl refl refl refl
+    passed refl refl refl refl
 
 -- what gives something back answers no list, so its answer is copied without memory
 pub returns-in_default-try_copy-clause-wants : goal.returns-in_default-try_copy-clause-wants
@@ -49,7 +49,7 @@ returns-in_default-try_copy-clause-wants g c = λ room.
     (rows_of c.self.inside.tables) _ c.args.tid c.args.env c.args.call given c.find_held_for.new.findings c.self.invariant.0 c.self.view_is
     c.view-view.ensures.setup c.view-view.ensures.rows c.requires.passed c.in-Ok.ensures.found c.in-Ok-answer_to.ensures.given in
     listed state.setup (parts state.setup state.journal) c.args.tid c.args.call
-        (ap (λ (a : Answer). is_list a.reply.value) (sym passed.answers) ∙ c.in_default-try_copy.ensures.wants)
+    (ap (λ (a : Answer). is_list a.reply.value) (sym passed.answers) ∙ c.in_default-try_copy.ensures.wants)
 
 pub invariant_of-self-in_default-perform : goal.invariant_of-self-in_default-perform
 invariant_of-self-in_default-perform g c =
@@ -108,7 +108,7 @@ returns-clause-ok g c =
     let next = entry_taken g.row.A.Denot state c.args.tid c.args.env c.args.call given c.find_held_for.new.findings c.is_noticed-noticed.result passed told in
     let journal : reverse c.push_reserved.new.journal.items ≡ x ∷ state.journal = search rules in
     rw c.in-Ok-try_copy.ensures.copy
-        (subst (λ (s : State). Takes s (state_of c.self.inside.setup c.self.inside.limit c.push_reserved.new.journal) x.tid x.env x.call x.outcome)
+    (subst (λ (s : State). Takes s (state_of c.self.inside.setup c.self.inside.limit c.push_reserved.new.journal) x.tid x.env x.call x.outcome)
     c.self.view_is
     (takes_entry state (rows_of c.self.inside.tables) x (reverse c.push_reserved.new.journal.items) c.push_reserved.new.journal.spare c.self.invariant.0 journal
-        next))
+    next))

@@ -8,5 +8,5 @@ returns-in-None-clause-follows g c = λ first. c.pass.ensures.follows first.log
 pub returns-in-Some-clause-follows : goal.returns-in-Some-clause-follows
 returns-in-Some-clause-follows g c = λ first follows.
     denied_follows first.log c.args.self.now.log c.args.guard.now c.take_judged.new.guard c.args.tid c.args.env c.args.call c.in-Some.rule c.take_judged.result
-        follows
+    follows
     (sym c.judge.ensures ∙ c.in-Some.is) c.take_judged.ensures.setup c.take_judged.ensures.took c.take_judged.ensures.same

@@ -8,7 +8,7 @@ returns-in-Ok-foresee-clause-asked c = λ p stands.
     let gone = c.args.self.now.lists.objects.items in
     let arguments = c.push_arguments.new.out.items in
     let line : Line = record { by = c.tid-tid.result; event = Question c.tid-tid.result c.env.result c.function_of.result; arguments = arguments; gone = gone }
-        in (
+    in (
       line,
       asked_so c.args.view.now.setup.now p c.args.entry.now c.tid-tid.result c.env.result c.call-call.result.now c.function_of.result c.clear.new.self.items
           arguments gone
