@@ -95,7 +95,7 @@ extern "C" {
 
 /* ---- errors ---- */
 
-enum {
+enum { /* embed/numbers: errors */
     JG_CLOSED = -1,        /* the handle is closed */
     JG_IS_OPEN = -2,       /* the handle is open already: close it first, else its memory would be lost */
     JG_BAD_VERSION = -3,   /* the library is of another version than this header */
@@ -108,7 +108,7 @@ enum {
     JG_IMPOSSIBLE = -10,   /* the fact can't be: what was told before it says so. It is a mistake of who tells, never of
                               native code */
     JG_FULL = -11,         /* 2^60 facts made something */
-    JG_BAD_TICKET = -12,   /* the ticket is none: no question wrote it */
+    JG_BAD_TICKET = -12,   /* the ticket is none: no question wrote it, or its call was told already */
     JG_LIMIT = -13,        /* the journal has as many entries as it may */
     JG_NO_TEXT = -14,      /* a line has no text, or is too long */
     JG_NO_RULE = -15,      /* there is no rule of that number, or no denial to explain */
@@ -151,7 +151,7 @@ typedef struct jg_value {
     uint64_t number;
 } jg_value;
 
-enum {
+enum { /* embed/numbers: values */
     JG_NOTHING = 0,     /* nothing: no environment, no answer */
     JG_NULL = 1,        /* NULL */
     JG_LOCAL = 2,       /* a local reference: detail its maker, the thread it was handed to; number its number */
@@ -183,7 +183,7 @@ enum {
  * Meet each array of references, a `String[]` too, as JG_KIND_OBJECTS. Who meets one as JG_KIND_OBJECT gets false
  * denials of rule 9 (JG_WRONG_TYPE): of GetArrayLength, GetObjectArrayElement and SetObjectArrayElement.
  */
-enum {
+enum { /* embed/numbers: kinds of objects */
     JG_KIND_OBJECT = 0,      /* of none of the kinds below */
     JG_KIND_THROWABLE = 1,   /* it can be thrown */
     JG_KIND_CLASS = 2,       /* a class object, of a class that is no array's */
@@ -211,7 +211,7 @@ typedef struct jg_fact {
     uint32_t second; /* LENT, MET, IS_LENGTH: a length in items; LINKED: a native method of the class, from 1 */
 } jg_fact;
 
-enum {
+enum { /* embed/numbers: facts */
     JG_BEGINS = 1, JG_ENDS, JG_ENTERS, JG_LEAVES, JG_PUSHED, JG_POPPED, JG_ENSURED, JG_RAISED, JG_CALMED, JG_GOT,
     JG_LOST, JG_LENT, JG_GAVE, JG_OWNS, JG_FREED, JG_MET, JG_GONE, JG_LINKED, JG_UNLINKED, JG_WARNED,
     JG_IS_LOCAL, JG_IS_PENDING, JG_IS_LENGTH
@@ -221,7 +221,7 @@ enum {
  * Families of buffers: those of the eight Get<Type>ArrayElements, of GetStringChars, GetStringUTFChars,
  * GetPrimitiveArrayCritical and GetStringCritical.
  */
-enum {
+enum { /* embed/numbers: families of buffers */
     JG_BOOLEANS = 0, JG_BYTES, JG_CHARS, JG_SHORTS, JG_INTS, JG_LONGS, JG_FLOATS, JG_DOUBLES, JG_STRING, JG_UTF,
     JG_CRITICAL, JG_CRITICAL_STRING
 };
@@ -230,7 +230,8 @@ enum {
 
 /*
  * What comes of a call, kept until the machine has answered: it holds no memory, so it may be copied, and dropped where
- * nothing is to be told (jg_tells). Only the library reads its fields.
+ * nothing is to be told (jg_tells). Only the library reads its fields, and marks in them that the call was told. A copy
+ * that was made before isn't marked. It is of the core that wrote it: what another takes it for isn't said.
  */
 typedef struct jg_ticket {
     uint32_t expected;
@@ -242,11 +243,11 @@ typedef struct jg_ticket {
 typedef struct jg_verdict {
     uint32_t rule;    /* JG_PASSED where it breaks none, else the first that it breaks */
     uint32_t operand; /* of a broken rule: the operand that breaks it, counted from 1, or 0 where none does */
-    jg_ticket ticket; /* for jg_did; of a denied call it is for a machine that makes the call all the same */
+    jg_ticket ticket; /* for jg_did, once; of a denied call it is for a machine that makes the call all the same */
 } jg_verdict;
 
 /* The rules, as docs/RULES.md numbers them. */
-enum {
+enum { /* embed/numbers: rules */
     JG_PASSED = 0, JG_WRONG_THREAD, JG_DETACHED, JG_IN_CRITICAL, JG_PENDING, JG_FOREIGN_LOCAL, JG_DEAD_REFERENCE,
     JG_WRONG_REF_KIND, JG_NULL_REFERENCE, JG_WRONG_TYPE, JG_BAD_FIELD, JG_BAD_BUFFER, JG_BAD_ARGUMENT, JG_PINNED,
     JG_NOT_OWNER, JG_BAD_FRAME, JG_NO_NATIVE_ACCESS, JG_NOT_LINKED
@@ -272,7 +273,7 @@ typedef struct jg_held {
     jg_value name;   /* of JG_BY_REFERENCE the reference, of JG_BY_BUFFER the buffer, else JG_NOTHING */
 } jg_held;
 
-enum {
+enum { /* embed/numbers: holders */
     JG_BY_NOTHING = 0, /* nothing keeps it: the object isn't there, or stands in the list before */
     JG_BY_SETUP,       /* it is a class object of the setup */
     JG_BY_REFERENCE,   /* a live local or global reference names it */
@@ -339,9 +340,9 @@ int32_t jg_may(jg_core *core, uint32_t thread, const jg_value *env, uint32_t fun
  * releases, PopLocalFrame, MonitorExit, ExceptionClear, UnregisterNatives and NativeLeave. So of two threads that
  * delete one reference at once the second is denied. The name of what it hands out is written to `given` (JG_NOTHING
  * where it hands out nothing): the local that PopLocalFrame or NativeLeave keeps its operand's object by. Where Java
- * called the native method nothing is kept: then ask NativeLeave by jg_ask, and tell jg_leaves with jg_null(). Don't
- * call jg_did after it: the verdict's ticket is for jg_told alone. As jg_ask; and JG_IMPOSSIBLE, JG_FULL. Of a function
- * that hands out something else a passed question is JG_IMPOSSIBLE.
+ * called the native method nothing is kept: then ask NativeLeave by jg_ask, and tell jg_leaves with jg_null(). Of a
+ * passed call the verdict's ticket is for jg_told alone: jg_did refuses it as JG_BAD_TICKET. As jg_ask; and
+ * JG_IMPOSSIBLE, JG_FULL. Of a function that hands out something else a passed question is JG_IMPOSSIBLE.
  */
 JG_MUST_USE
 int32_t jg_ending(jg_core *core, uint32_t thread, const jg_value *env, uint32_t function, const jg_value *operands,
@@ -350,13 +351,14 @@ int32_t jg_ending(jg_core *core, uint32_t thread, const jg_value *env, uint32_t 
 /*
  * Tells what came of a call once it has returned, by what the machine says of it: JG_NOTHING it was done,
  * JG_NULL it answered NULL, JG_OBJECT it answered a reference to this object, JG_ITEMS it lent a buffer of so many
- * items, JG_THREW it threw this object. An object must have been met before (jg_met). The name of what the call handed
- * out is written to `given`: a reference, a buffer, after AttachCurrentThread an environment, else JG_NOTHING. 0, or
- * JG_CLOSED, JG_BAD_TICKET, JG_BAD_VALUE, JG_IMPOSSIBLE (also where no machine says this of such a call), JG_FULL,
- * JG_NO_MEMORY.
+ * items, JG_THREW it threw this object. An object must have been met before (jg_met), and one that is thrown as
+ * JG_KIND_THROWABLE or of a class of throwable objects. The name of what the call handed out is written to `given`: a
+ * reference, a buffer, after AttachCurrentThread an environment, else JG_NOTHING. 0, and the ticket is marked: a second
+ * jg_did of it is JG_BAD_TICKET. Or JG_CLOSED, JG_BAD_TICKET, JG_BAD_VALUE, JG_IMPOSSIBLE (also where no machine says
+ * this of such a call), JG_FULL, JG_NO_MEMORY; then the ticket is as it was.
  */
 JG_MUST_USE
-int32_t jg_did(jg_core *core, const jg_ticket *ticket, const jg_value *says, jg_value *given);
+int32_t jg_did(jg_core *core, jg_ticket *ticket, const jg_value *says, jg_value *given);
 
 /*
  * Whether anything may come of the ticket's call that is to be told, where it threw nothing: 1; or 0, and then jg_did
@@ -499,7 +501,7 @@ typedef struct jg_advice {
     jg_spot source;  /* the earlier call that made it so, or nobody's */
 } jg_advice;
 
-enum {
+enum { /* embed/numbers: kinds of advice */
     JG_UNCHECKED = 1,      /* a call after one that may have thrown, and nobody asked whether it did */
     JG_WRITES_LOST,        /* JNI_ABORT throws away what was written to a copy */
     JG_COMMITTED_AND_KEPT, /* a buffer that JNI_COMMIT alone released is open at its session's end, or at the end */
@@ -719,7 +721,7 @@ static inline int32_t jg_checked_ending(jg_core *core, uint32_t thread, const jg
 }
 
 JG_MUST_USE
-static inline int32_t jg_checked_did(jg_core *core, const jg_ticket *ticket, const jg_value *says, jg_value *given) {
+static inline int32_t jg_checked_did(jg_core *core, jg_ticket *ticket, const jg_value *says, jg_value *given) {
     if (!core || !ticket || !says || !given) {
         return JG_NULL_POINTER;
     }
@@ -1228,13 +1230,16 @@ static inline jg_value jg_list(uint64_t count, int fits) {
     return jg_value_of(JG_LIST, fits != 0, count);
 }
 
-/* What a machine says: it lent a buffer of so many items; it threw this object. */
+/*
+ * What a machine says: it lent a buffer of so many items; it threw this object. What isn't the name of an object was
+ * thrown by no machine: of that it makes a value that says nothing, JG_BAD_VALUE of jg_did.
+ */
 static inline jg_value jg_items(uint32_t count) {
     return jg_value_of(JG_ITEMS, 0, count);
 }
 
 static inline jg_value jg_threw(jg_value object) {
-    return jg_value_of(JG_THREW, 0, object.number);
+    return object.kind == JG_OBJECT ? jg_value_of(JG_THREW, 0, object.number) : jg_value_of(UINT32_MAX, 0, 0);
 }
 
 /* Whether two names are the same. */

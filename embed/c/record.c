@@ -481,7 +481,7 @@ static void put_told(const record_line *line, const jg_ticket *ticket, const jg_
 
 /* ---- questions are asked ---- */
 
-static void put_answer(const record_line *line, const jg_verdict *verdict, const outcome *of, jg_value given) {
+static void put_answer(const record_line *line, jg_verdict *verdict, const outcome *of, jg_value given) {
     put(line->event, line->event_size);
     put_verdict(line, verdict);
     if (!of->is_told) {

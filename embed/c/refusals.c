@@ -348,7 +348,7 @@ static void refuse_operands(known *k) {
 
 static void refuse_tickets(known *k) {
     const jg_value nothing = jg_nothing();
-    const jg_ticket zeros = {0, 0, {0, 0, {0, 0, 0}, {0, 0, 0}, 0, 0}};
+    jg_ticket zeros = {0, 0, {0, 0, {0, 0, 0}, {0, 0, 0}, 0, 0}};
     jg_ticket beyond = zeros;
     beyond.expected = 17;
     beyond.thread = THREAD;
@@ -356,6 +356,8 @@ static void refuse_tickets(known *k) {
     REFUSED(JG_BAD_TICKET, jg_told(&zeros, &nothing, &out.fact));
     REFUSED(JG_BAD_TICKET, jg_is_in_doubt(&zeros));
     REFUSED(JG_BAD_TICKET, jg_tells(&zeros));
+    REFUSED(JG_BAD_TICKET, jg_tells(&beyond));
+    beyond.expected = 64;
     REFUSED(JG_BAD_TICKET, jg_tells(&beyond));
     REFUSED(JG_NULL_POINTER, jg_tells(NULL));
     REFUSED(JG_BAD_TICKET, jg_did(&k->core, &beyond, &nothing, &out.given));
@@ -382,6 +384,23 @@ static void tell_denied(known *k) {
     REFUSED(JG_IMPOSSIBLE, jg_did(&k->core, &verdict.ticket, &null, &out.given));
 }
 
+/* A call is told once: not again by its ticket, and not after jg_ending; but its fact can be asked for. */
+static void refuse_told(known *k) {
+    const jg_value nothing = jg_nothing();
+    jg_value given;
+    jg_verdict verdict;
+    jg_fact fact;
+    DONE(0, jg_ask(&k->core, THREAD, &k->env, JG_FN_GetStringLength, &k->local, 1, &verdict));
+    DONE(0, jg_did(&k->core, &verdict.ticket, &nothing, &given));
+    REFUSED(JG_BAD_TICKET, jg_did(&k->core, &verdict.ticket, &nothing, &out.given));
+    DONE(0, jg_tells(&verdict.ticket));
+    DONE(0, jg_ending(&k->core, THREAD, &k->env, JG_FN_ExceptionClear, &nothing, 0, &verdict, &given));
+    REFUSED(JG_BAD_TICKET, jg_did(&k->core, &verdict.ticket, &nothing, &out.given));
+    REFUSED(JG_BAD_TICKET, jg_did(&k->core, &verdict.ticket, &nothing, &out.given));
+    DONE(1, jg_told(&verdict.ticket, &nothing, &fact));
+    DONE(JG_CALMED, (int64_t)fact.word);
+}
+
 static void refuse_answers(known *k) {
     static const uint32_t KINDS[] = {JG_LOCAL, JG_BUFFER, JG_ENVIRONMENT, JG_NUMBER, JG_LIST, JG_THREW + 1, UINT32_MAX};
     const jg_value many = jg_value_of(JG_ITEMS, 0, (uint64_t)UINT32_MAX + 1), nothing = jg_nothing();
@@ -395,6 +414,11 @@ static void refuse_answers(known *k) {
     REFUSED(JG_BAD_VALUE, jg_did(&k->core, &verdict.ticket, &many, &out.given));
     REFUSED(JG_IMPOSSIBLE, jg_did(&k->core, &verdict.ticket, &k->object, &out.given));
     REFUSED(JG_IMPOSSIBLE, jg_told(&verdict.ticket, &k->object, &out.fact));
+    /* What no machine throws: no object, and one that can't be thrown. */
+    const jg_value none = jg_threw(nothing), null = jg_threw(jg_null()), unfit = jg_threw(k->object);
+    REFUSED(JG_BAD_VALUE, jg_did(&k->core, &verdict.ticket, &none, &out.given));
+    REFUSED(JG_BAD_VALUE, jg_did(&k->core, &verdict.ticket, &null, &out.given));
+    REFUSED(JG_IMPOSSIBLE, jg_did(&k->core, &verdict.ticket, &unfit, &out.given));
     DONE(0, jg_ask(&k->core, THREAD, &k->env, JG_FN_GetStringLength, &k->local, 1, &verdict));
     /* Nothing is told of it, and nothing is written. */
     REFUSED(0, jg_told(&verdict.ticket, &nothing, &out.fact));
@@ -813,6 +837,7 @@ int main(void) {
     count_lists(&k);
     refuse_tickets(&k);
     tell_denied(&k);
+    refuse_told(&k);
     refuse_answers(&k);
     refuse_facts(&k);
     refuse_impossible(&k);

@@ -28,12 +28,14 @@ holds_guard (Some (Adviser x)) a is = absurd (let no : ⊥ = cc in no)
 pub unchanged_guard : (v new : Option Session) (a b : State) → guard_of v ≡ Some a → new ≡ Some (Guard b) → b ≡ a → new ≡ v
 unchanged_guard v new a b held is same = is ∙ ap (λ y. Some (Guard y)) same ∙ sym (holds_guard v a held)
 
-pub stepped_guard : (v new : Option Session) (a b : State) (R : State → State → Type 0) → guard_of v ≡ Some a → new ≡ Some (Guard b) → R a b → Steps (guard_of v) (guard_of new) R
+pub stepped_guard : (v new : Option Session) (a b : State) (R : State → State → Type 0) → guard_of v ≡ Some a → new ≡ Some (Guard b) → R a b
+    → Steps (guard_of v) (guard_of new) R
 stepped_guard v new a b R held is r =
     subst (λ (x : Option State). Steps x (guard_of new) R) (sym held) (subst (λ (x : Option Session). Steps (Some a) (guard_of x) R) (sym is) r)
 
 -- and so it went on
-pub stepped : (v new : Option Session) (a b : CoreHeld) (R : CoreHeld → CoreHeld → Type 0) → core_of v ≡ Some a → new ≡ Some (Core b) → R a b → Steps (core_of v) (core_of new) R
+pub stepped : (v new : Option Session) (a b : CoreHeld) (R : CoreHeld → CoreHeld → Type 0) → core_of v ≡ Some a → new ≡ Some (Core b) → R a b
+    → Steps (core_of v) (core_of new) R
 stepped v new a b R held is r =
     subst (λ (x : Option CoreHeld). Steps x (core_of new) R) (sym held) (subst (λ (x : Option Session). Steps (Some a) (core_of x) R) (sym is) r)
 
@@ -47,7 +49,8 @@ holds_adviser (Some (Adviser x)) a is = let same : x ≡ a = cc in ap (λ y. Som
 pub unchanged_adviser : (v new : Option Session) (a b : AdviserHeld) → adviser_of v ≡ Some a → new ≡ Some (Adviser b) → b ≡ a → new ≡ v
 unchanged_adviser v new a b held is same = is ∙ ap (λ y. Some (Adviser y)) same ∙ sym (holds_adviser v a held)
 
-pub stepped_adviser : (v new : Option Session) (a b : AdviserHeld) (R : AdviserHeld → AdviserHeld → Type 0) → adviser_of v ≡ Some a → new ≡ Some (Adviser b) → R a b → Steps (adviser_of v) (adviser_of new) R
+pub stepped_adviser : (v new : Option Session) (a b : AdviserHeld) (R : AdviserHeld → AdviserHeld → Type 0) → adviser_of v ≡ Some a → new ≡ Some (Adviser b)
+    → R a b → Steps (adviser_of v) (adviser_of new) R
 stepped_adviser v new a b R held is r =
     subst (λ (x : Option AdviserHeld). Steps x (adviser_of new) R) (sym held) (subst (λ (x : Option Session). Steps (Some a) (adviser_of x) R) (sym is) r)
 

@@ -1,5 +1,6 @@
 mod Reading
 mod Holding
+mod Marking
 mod Naming
 mod Seeing
 mod Noting

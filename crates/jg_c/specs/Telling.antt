@@ -12,6 +12,8 @@ use Rattle.jg_core.specs.declared.says.Given.TheVariants.{Nothing as NothingGive
 use Rattle.jg_core.specs.declared.says.Says.{Says}
 use Rattle.jg_core.specs.declared.says.Says.TheVariants.{Threw}
 use Rattle.jg_policy.specs.Stated.{StatedSetup}
+use Rattle.jg_rows.specs.declared.row.ObjectKind.TheVariants.{ThrowableObject}
+use Rattle.jg_judge.specs.Kinds.{is_kind}
 use Rattle.jg_rules.specs.Parts.{Parts}
 use Rattle.jg_core.specs.Asking.{Returned, RefusesReturn, given_for}
 use Rattle.jg_core.specs.Expected.{told}
@@ -46,10 +48,21 @@ Tells old new (Some fact) given n = TellsFact old new fact given n
 
 -- ---- a call that returned
 
+-- a machine may say so: what it threw can be thrown
+abbrev pub can_say : StatedSetup → Parts → Says → Bool
+can_say s p (Threw o) = is_kind s p ThrowableObject o.0
+can_say s p says = true
+
+abbrev pub CanSay : CoreHeld → Says → Bool → Type 0
+CanSay a says b = (w : List Fact) → CoreStands a.core w → can_say a.core.setup (parts_of w) says ≡ b
+
+-- what it implies was taken, or refused; or the machine can't say so
 abbrev pub Returns : CoreHeld → CoreHeld → Ticket → Says → JgValue → ℤ → Type 0
 Returns old new ticket says given n =
-    ((n ≡ errors.done) × ((out : Given) × Returned old.core new.core ticket says out × (given ≡ of_given out)))
+    ((n ≡ errors.done) × CanSay old says true
+    × ((out : Given) × Returned old.core new.core ticket says out × (given ≡ of_given out)))
     ⊎ ((why : Untold) × (n ≡ errors.of_untold why) × RefusesReturn old.core ticket says why)
+    ⊎ ((n ≡ errors.impossible) × CanSay old says false)
 
 abbrev pub ReturnsBy : CoreHeld → CoreHeld → Ticket → Option Says → JgValue → ℤ → Type 0
 ReturnsBy old new ticket None given n = n ≡ errors.bad_value

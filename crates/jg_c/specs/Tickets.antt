@@ -1,5 +1,5 @@
 -- Tickets as C keeps them.
-use Rattle.std.specs.Prelude.{ℕ, Option, Some, None, if◌then◌else◌, nat_eq}
+use Rattle.std.specs.Prelude.{ℕ, ◌-◌, ◌≡◌, Bool, true, not, Option, Some, None, if◌then◌else◌, nat_eq, nat_lt}
 use Rattle.std.specs.Option.{option_map, option_and_then}
 use Rattle.jg_table_buffers.specs.declared.family.Family.{Family}
 use Rattle.jg_core.specs.declared.asking.Ticket.{Ticket}
@@ -35,6 +35,27 @@ expected_of n f =
     else if nat_eq n 16 then option_map (λ fact. expected.IfEnded (Some fact)) (fact_of f)
     else None
 
--- the ticket that the numbers state, if they state one
+-- by so much greater is the number of what comes of a call that was told already
+abbrev pub told_mark : ℕ
+told_mark = 32
+
+-- what came of its call was told already
+abbrev pub is_told : JgTicket → Bool
+is_told t = not (nat_lt t.expected told_mark)
+
+abbrev pub unmarked : ℕ → ℕ
+unmarked n = if nat_lt n told_mark then n else n - told_mark
+
+-- the ticket that the numbers state, if they state one, whether its call was told or not
 abbrev pub ticket_of : JgTicket → Option Ticket
-ticket_of t = option_and_then (λ tid. option_map (λ e. record { tid = tid; expected = e }) (expected_of t.expected t.fact)) (thread_of t.thread)
+ticket_of t =
+    option_and_then (λ tid. option_map (λ e. record { tid = tid; expected = e }) (expected_of (unmarked t.expected) t.fact))
+    (thread_of t.thread)
+
+-- the same, of a call that wasn't told yet
+abbrev pub untold_ticket_of : JgTicket → Option Ticket
+untold_ticket_of t = if is_told t then None else ticket_of t
+
+-- the ticket states what it did, and is of a call that was told
+abbrev pub IsMarked : JgTicket → JgTicket → Type 0
+IsMarked old new = (is_told new ≡ true) × (ticket_of new ≡ ticket_of old)

@@ -6,7 +6,10 @@ ghost use Rattle.jg_c.specs.Advices as specs;
 ghost use Rattle.jg_c.specs.Advices.{TellsKind};
 
 use crate::copying::copy_out;
-use crate::error::BAD_VALUE;
+use crate::numbers::{
+    BAD_VALUE, COMMITTED_AND_KEPT, DESCRIPTOR, GROWING, LONG_REGION, MONITOR_KEPT, NOBODY,
+    UNCHECKED, WRITES_LOST,
+};
 use jg_advice::{Advice, Kind, Source, help, kind_word, sentence, verb};
 use jg_words::Tid;
 
@@ -36,19 +39,17 @@ pub struct JgAdvice {
     pub source: JgSpot,
 }
 
-const NOBODY: u32 = u32::MAX;
-
 fn kind_number(kind: Kind) -> u32
     ensures { result ≡ specs.kind_number kind }
 {
     match kind {
-        Kind::Unchecked => 1,
-        Kind::WritesLost => 2,
-        Kind::CommittedAndKept => 3,
-        Kind::LongRegion => 4,
-        Kind::MonitorAtDetachment => 5,
-        Kind::DescriptorForName => 6,
-        Kind::Growing => 7,
+        Kind::Unchecked => UNCHECKED,
+        Kind::WritesLost => WRITES_LOST,
+        Kind::CommittedAndKept => COMMITTED_AND_KEPT,
+        Kind::LongRegion => LONG_REGION,
+        Kind::MonitorAtDetachment => MONITOR_KEPT,
+        Kind::DescriptorForName => DESCRIPTOR,
+        Kind::Growing => GROWING,
     }
 }
 
@@ -120,13 +121,13 @@ fn kind_of(number: u32) -> Option<Kind>
     ensures { result ≡ specs.kind_of number }
 {
     match number {
-        1 => Some(Kind::Unchecked),
-        2 => Some(Kind::WritesLost),
-        3 => Some(Kind::CommittedAndKept),
-        4 => Some(Kind::LongRegion),
-        5 => Some(Kind::MonitorAtDetachment),
-        6 => Some(Kind::DescriptorForName),
-        7 => Some(Kind::Growing),
+        UNCHECKED => Some(Kind::Unchecked),
+        WRITES_LOST => Some(Kind::WritesLost),
+        COMMITTED_AND_KEPT => Some(Kind::CommittedAndKept),
+        LONG_REGION => Some(Kind::LongRegion),
+        MONITOR_KEPT => Some(Kind::MonitorAtDetachment),
+        DESCRIPTOR => Some(Kind::DescriptorForName),
+        GROWING => Some(Kind::Growing),
         _ => None,
     }
 }

@@ -5,8 +5,9 @@ ghost use Rattle.jg_c.specs.Advising.{IsNewAdviser};
 ghost use Rattle.jg_c.specs.Errors as errors;
 ghost use Rattle.jg_c.specs.Sessions.{Has, adviser_of};
 
-use crate::error::{CLOSED, DONE, IS_OPEN, NO_MEMORY};
+use crate::error::DONE;
 use crate::handle::Handle;
+use crate::numbers::{CLOSED, IS_OPEN, NO_MEMORY};
 use crate::session::{AdviserSession, Noted, Session};
 use jg_advice::Adviser;
 use std::alloc::Global;

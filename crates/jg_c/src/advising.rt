@@ -11,9 +11,10 @@ ghost use Rattle.jg_c.specs.Questions.{question_of};
 ghost use Rattle.jg_c.specs.Sessions.{Of, Steps, adviser_of, core_of};
 
 use crate::advice::{JgAdvice, of_advice};
-use crate::error::{BAD_FACT, CLOSED, DONE, NO_FUNCTION, NO_MEMORY};
+use crate::error::DONE;
 use crate::fact::{JgFact, fact_of};
 use crate::handle::Handle;
+use crate::numbers::{BAD_FACT, CLOSED, NO_FUNCTION, NO_MEMORY};
 use crate::question::{Head, read_question};
 use crate::session::{AdviserSession, CoreSession, Noted};
 use crate::value::JgValue;

@@ -1,6 +1,6 @@
 //! A core is asked.
 
-ghost use Rattle.std.specs.Prelude.{◌≡◌, ◌≢◌, ◌↔◌, None, false, List};
+ghost use Rattle.std.specs.Prelude.{◌≡◌, ◌≢◌, ◌↔◌, None, false, List, nat_eq};
 ghost use Rattle.jg_core.specs.declared.fact.Fact.{Fact};
 ghost use Rattle.jg_core.specs.Asking.{asked, is_passed};
 ghost use Rattle.jg_core.specs.Facts.{parts_of};
@@ -9,12 +9,15 @@ ghost use Rattle.jg_c.specs.Errors as errors;
 ghost use Rattle.jg_c.specs.Given.{of_given};
 ghost use Rattle.jg_c.specs.Questions.{Asks, Ends, EndsBy, IsAnswered, May, question_of, ruled};
 ghost use Rattle.jg_c.specs.Sessions.{Of, Steps, core_of};
+ghost use Rattle.jg_c.specs.Tickets.{is_told};
 
-use crate::error::{CLOSED, DONE, MISFIT, NO_FUNCTION, of_untold};
+use crate::error::{DONE, of_untold};
 use crate::given::of_given;
 use crate::handle::Handle;
+use crate::numbers::{CLOSED, MISFIT, NO_FUNCTION};
 use crate::question::{Head, read_question};
 use crate::session::CoreSession;
+use crate::ticket::mark_told;
 use crate::value::JgValue;
 use crate::verdict::{JgVerdict, write_answer};
 use jg_core::{Answer, Core, Ended};
@@ -31,6 +34,7 @@ fn ask(
 ) -> i32
     ensures asks { result ≢ errors.no_memory
         → Asks asked.old (question_of thread env.now function operands.now) verdict.new result }
+    ensures untold { result ≡ errors.done → is_told verdict.new.ticket ≡ false }
     ensures kept { result ≢ errors.done → verdict.new ≡ verdict.old }
     ensures numbers { result ≢ errors.closed }
     ensures same { asked.new ≡ asked.old }
@@ -65,6 +69,7 @@ pub extern "C" fn jg_ask(
     ensures closed { (result ≡ errors.closed) ↔ (core_of core.old.value ≡ None) }
     ensures asks { result ≢ errors.no_memory → Of (core_of core.old.value)
         (λ a. Asks a (question_of thread env.now function operands.now) verdict.new result) }
+    ensures untold { result ≡ errors.done → is_told verdict.new.ticket ≡ false }
     ensures kept { result ≢ errors.done → verdict.new ≡ verdict.old }
     ensures same { core.new.value ≡ core.old.value }
 {
@@ -122,9 +127,9 @@ fn may(
     }
 }
 
-/// The number of the rule that `jg_ask` of the same question writes, 0 where it breaks none; or what `jg_ask` answers in
-/// its place. It changes nothing and hands out no ticket. It takes memory only where it has more operands than any question
-/// before.
+/// The number of the rule that `jg_ask` of the same question writes, 0 where it breaks none; or what `jg_ask` answers
+/// in its place. It changes nothing and hands out no ticket. It takes memory only where it has more operands than any
+/// question before.
 #[unsafe(no_mangle)]
 pub extern "C" fn jg_may(
     core: &mut Handle,
@@ -144,17 +149,22 @@ pub extern "C" fn jg_may(
     }
 }
 
-/// Writes how the question of a call that ends something was answered, and what it hands out.
+/// Writes how the question of a call that ends something was answered, and what it hands out. The ticket of one that
+/// passed is of a call that was told.
 fn write_ended(ended: Ended, verdict: &mut JgVerdict, given: &mut JgValue) -> i32
     ensures is { IsAnswered ended.answer verdict.new result }
     ensures given { result ≡ errors.done → given.new ≡ of_given ended.given }
     ensures kept { result ≢ errors.done → verdict.new ≡ verdict.old × given.new ≡ given.old }
     ensures passed { result ≢ errors.done → is_passed ended.answer ≡ false }
+    ensures told { result ≡ errors.done → is_told verdict.new.ticket ≡ nat_eq verdict.new.rule 0 }
     ensures numbers { (result ≢ errors.closed) × (result ≢ errors.no_memory) }
 {
     let number = write_answer(ended.answer, verdict);
     if number == DONE {
         *given = of_given(ended.given);
+        if verdict.rule == 0 {
+            mark_told(&mut verdict.ticket);
+        }
     }
     number
 }
@@ -168,6 +178,7 @@ fn end_read(
     given: &mut JgValue,
 ) -> i32
     ensures ends { EndsBy core.old core.new bounds head arguments.now verdict.new given.new result }
+    ensures told { result ≡ errors.done → is_told verdict.new.ticket ≡ nat_eq verdict.new.rule 0 }
     ensures kept { result ≢ errors.done → verdict.new ≡ verdict.old × given.new ≡ given.old }
     ensures numbers { result ≢ errors.closed }
     ensures stayed { result ≢ errors.done → Stayed core.old core.new }
@@ -189,6 +200,7 @@ fn end(
 ) -> i32
     ensures ends { result ≢ errors.no_memory → Ends asked.old asked.new
         (question_of thread env.now function operands.now) verdict.new given.new result }
+    ensures told { result ≡ errors.done → is_told verdict.new.ticket ≡ nat_eq verdict.new.rule 0 }
     ensures kept { result ≢ errors.done → verdict.new ≡ verdict.old × given.new ≡ given.old }
     ensures numbers { result ≢ errors.closed }
     ensures stayed { result ≢ errors.done → Stayed asked.old.core asked.new.core }
@@ -208,7 +220,7 @@ fn end(
 }
 
 /// Asks, and where no rule is broken takes at once what the call ends, before the machine ends it. The name of what it
-/// hands out is written to `given`.
+/// hands out is written to `given`, and the verdict's ticket is one that `jg_did` refuses.
 #[unsafe(no_mangle)]
 pub extern "C" fn jg_ending(
     core: &mut Handle,
@@ -222,6 +234,7 @@ pub extern "C" fn jg_ending(
     ensures closed { (result ≡ errors.closed) ↔ (core_of core.old.value ≡ None) }
     ensures ends { result ≢ errors.no_memory → Steps (core_of core.old.value) (core_of core.new.value)
         (λ old new. Ends old new (question_of thread env.now function operands.now) verdict.new given.new result) }
+    ensures told { result ≡ errors.done → is_told verdict.new.ticket ≡ nat_eq verdict.new.rule 0 }
     ensures kept { result ≢ errors.done → verdict.new ≡ verdict.old × given.new ≡ given.old }
     ensures stayed { result ≢ errors.done → Steps (core_of core.old.value) (core_of core.new.value)
         (λ old new. Stayed old.core new.core) }

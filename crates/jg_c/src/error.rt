@@ -3,43 +3,16 @@
 ghost use Rattle.std.specs.Prelude.{◌≡◌, ◌≢◌};
 ghost use Rattle.jg_c.specs.Errors as errors;
 
+use crate::numbers::{
+    BAD_MODE, BAD_NAME, BAD_OPERAND, BAD_TYPE, DUPLICATE, FULL, IMPOSSIBLE, LINE_TOO_LONG, MISSING,
+    NO_ENV, NO_MEMORY, NO_THREAD, NOT_ASCII, NOT_TOML, SETUP_VERSION, TOO_MANY, UNKNOWN_FUNCTION,
+    UNKNOWN_KEY, WRONG_COUNT,
+};
 use jg_core::Untold;
 use jg_policy::SetupFault;
 use jg_text::ScriptFault;
 
 pub(crate) const DONE: i32 = 0;
-
-pub(crate) const CLOSED: i32 = -1;
-
-pub(crate) const IS_OPEN: i32 = -2;
-
-pub(crate) const BAD_VERSION: i32 = -3;
-
-pub(crate) const NO_MEMORY: i32 = -4;
-
-pub(crate) const BAD_THREAD: i32 = -5;
-
-pub(crate) const BAD_VALUE: i32 = -6;
-
-pub(crate) const NO_FUNCTION: i32 = -7;
-
-pub(crate) const MISFIT: i32 = -8;
-
-pub(crate) const BAD_FACT: i32 = -9;
-
-pub(crate) const IMPOSSIBLE: i32 = -10;
-
-pub(crate) const BAD_TICKET: i32 = -12;
-
-pub(crate) const LIMIT: i32 = -13;
-
-pub(crate) const NO_TEXT: i32 = -14;
-
-pub(crate) const NO_RULE: i32 = -15;
-
-pub(crate) const UNWRITTEN: i32 = -16;
-
-pub(crate) const NO_NAME: i32 = -17;
 
 /// The number of what a core refuses a fact for.
 pub(crate) fn of_untold(why: Untold) -> i32
@@ -48,7 +21,7 @@ pub(crate) fn of_untold(why: Untold) -> i32
 {
     match why {
         Untold::Impossible => IMPOSSIBLE,
-        Untold::Full => -11,
+        Untold::Full => FULL,
         Untold::NoMemory => NO_MEMORY,
     }
 }
@@ -58,15 +31,15 @@ pub(crate) fn of_setup_fault(fault: SetupFault) -> i32
     ensures { result ≡ errors.of_setup_fault fault }
 {
     match fault {
-        SetupFault::NotToml => -32,
-        SetupFault::BadVersion => -33,
-        SetupFault::UnknownKey => -34,
-        SetupFault::Missing => -35,
-        SetupFault::BadType => -36,
-        SetupFault::BadMode => -37,
-        SetupFault::BadName => -38,
-        SetupFault::Duplicate => -39,
-        SetupFault::TooMany => -40,
+        SetupFault::NotToml => NOT_TOML,
+        SetupFault::BadVersion => SETUP_VERSION,
+        SetupFault::UnknownKey => UNKNOWN_KEY,
+        SetupFault::Missing => MISSING,
+        SetupFault::BadType => BAD_TYPE,
+        SetupFault::BadMode => BAD_MODE,
+        SetupFault::BadName => BAD_NAME,
+        SetupFault::Duplicate => DUPLICATE,
+        SetupFault::TooMany => TOO_MANY,
         SetupFault::NoMemory => NO_MEMORY,
     }
 }
@@ -77,13 +50,13 @@ pub(crate) fn of_script_fault(fault: ScriptFault) -> i32
     ensures numbers { (result ≢ errors.closed) × (result ≢ errors.limit) × (result ≢ errors.unwritten) }
 {
     match fault {
-        ScriptFault::LineTooLong => -64,
-        ScriptFault::NotAscii => -65,
-        ScriptFault::NoThread => -66,
-        ScriptFault::NoEnv => -67,
-        ScriptFault::UnknownFunction => -68,
-        ScriptFault::WrongCount => -69,
-        ScriptFault::BadOperand => -70,
+        ScriptFault::LineTooLong => LINE_TOO_LONG,
+        ScriptFault::NotAscii => NOT_ASCII,
+        ScriptFault::NoThread => NO_THREAD,
+        ScriptFault::NoEnv => NO_ENV,
+        ScriptFault::UnknownFunction => UNKNOWN_FUNCTION,
+        ScriptFault::WrongCount => WRONG_COUNT,
+        ScriptFault::BadOperand => BAD_OPERAND,
         ScriptFault::TooManyThreads => -71,
         ScriptFault::NoMemory => NO_MEMORY,
     }

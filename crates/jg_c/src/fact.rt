@@ -3,16 +3,15 @@
 ghost use Rattle.std.specs.Prelude.{◌≡◌};
 ghost use Rattle.jg_c.specs.Facts as facts;
 
+use crate::numbers::{
+    BEGINS, BOOLEANS, BYTES, CALMED, CHARS, CRITICAL, CRITICAL_STRING, DOUBLES, ENDS, ENSURED,
+    ENTERS, FLOATS, FREED, GAVE, GONE, GOT, INTS, IS_LENGTH, IS_LOCAL, IS_PENDING, LEAVES, LENT,
+    LINKED, LONGS, LOST, MET, OWNS, POPPED, PUSHED, RAISED, SHORTS, STRING, UNLINKED, UTF, WARNED,
+};
 use crate::value::{JgValue, kind_of, thread_of};
 use jg_core::{Checked, Fact};
 use jg_table_buffers::Family;
 use jg_words::{ItemType, ObjId, Primitive, Tid};
-
-/// The word of a reference that was handed out.
-pub(crate) const HANDED: u32 = 10;
-
-/// The word of a reference that ended.
-pub(crate) const LOST: u32 = 11;
 
 /// A fact as C holds it. It is `jg_fact` in jg.h, which names the words and says which fields each has; the others are
 /// 0.
@@ -51,18 +50,18 @@ pub(crate) fn family_of(number: u32) -> Option<Family>
     ensures { result ≡ facts.family_of number }
 {
     match number {
-        0 => Some(Family::Elements(ItemType::Of(Primitive::Boolean))),
-        1 => Some(Family::Elements(ItemType::Of(Primitive::Byte))),
-        2 => Some(Family::Elements(ItemType::Of(Primitive::Char))),
-        3 => Some(Family::Elements(ItemType::Of(Primitive::Short))),
-        4 => Some(Family::Elements(ItemType::Of(Primitive::Int))),
-        5 => Some(Family::Elements(ItemType::Of(Primitive::Long))),
-        6 => Some(Family::Elements(ItemType::Float)),
-        7 => Some(Family::Elements(ItemType::Double)),
-        8 => Some(Family::Chars),
-        9 => Some(Family::UtfChars),
-        10 => Some(Family::ArrayCritical),
-        11 => Some(Family::StringCritical),
+        BOOLEANS => Some(Family::Elements(ItemType::Of(Primitive::Boolean))),
+        BYTES => Some(Family::Elements(ItemType::Of(Primitive::Byte))),
+        CHARS => Some(Family::Elements(ItemType::Of(Primitive::Char))),
+        SHORTS => Some(Family::Elements(ItemType::Of(Primitive::Short))),
+        INTS => Some(Family::Elements(ItemType::Of(Primitive::Int))),
+        LONGS => Some(Family::Elements(ItemType::Of(Primitive::Long))),
+        FLOATS => Some(Family::Elements(ItemType::Float)),
+        DOUBLES => Some(Family::Elements(ItemType::Double)),
+        STRING => Some(Family::Chars),
+        UTF => Some(Family::UtfChars),
+        CRITICAL => Some(Family::ArrayCritical),
+        CRITICAL_STRING => Some(Family::StringCritical),
         _ => None,
     }
 }
@@ -80,22 +79,22 @@ fn frame_fact(fact: &JgFact, tid: Tid) -> Option<Fact>
     ensures { result ≡ facts.frame_fact fact.now tid }
 {
     match fact.word {
-        1 => Some(Fact::Begin(tid)),
-        2 => Some(Fact::End(tid)),
-        3 => Some(Fact::Enter(tid)),
-        4 => Some(Fact::Leave {
+        BEGINS => Some(Fact::Begin(tid)),
+        ENDS => Some(Fact::End(tid)),
+        ENTERS => Some(Fact::Enter(tid)),
+        LEAVES => Some(Fact::Leave {
             tid,
             kept: fact.object.object()?,
         }),
-        5 => Some(Fact::Push {
+        PUSHED => Some(Fact::Push {
             tid,
             room: fact.first,
         }),
-        6 => Some(Fact::Pop {
+        POPPED => Some(Fact::Pop {
             tid,
             kept: fact.object.object()?,
         }),
-        7 => Some(Fact::Ensure {
+        ENSURED => Some(Fact::Ensure {
             tid,
             room: fact.first,
         }),
@@ -108,16 +107,16 @@ fn holding_fact(fact: &JgFact, tid: Tid) -> Option<Fact>
     ensures { result ≡ facts.holding_fact fact.now tid }
 {
     match fact.word {
-        8 => Some(Fact::Raise {
+        RAISED => Some(Fact::Raise {
             tid,
             object: thing_of(fact)?,
         }),
-        9 => Some(Fact::Calm(tid)),
-        14 => Some(Fact::Own {
+        CALMED => Some(Fact::Calm(tid)),
+        OWNS => Some(Fact::Own {
             tid,
             object: thing_of(fact)?,
         }),
-        15 => Some(Fact::Free {
+        FREED => Some(Fact::Free {
             tid,
             object: thing_of(fact)?,
         }),
@@ -150,16 +149,16 @@ fn name_fact(fact: &JgFact, tid: Tid) -> Option<Fact>
     ensures { result ≡ facts.name_fact fact.now tid }
 {
     match fact.word {
-        HANDED => hand_fact(fact, tid),
+        GOT => hand_fact(fact, tid),
         LOST => lost_fact(fact),
-        12 => Some(Fact::Lend {
+        LENT => Some(Fact::Lend {
             tid,
             family: family_of(fact.first)?,
             object: thing_of(fact)?,
             via: fact.name.reference()?,
             length: fact.second,
         }),
-        13 => Some(Fact::Back(fact.name.buffer()?)),
+        GAVE => Some(Fact::Back(fact.name.buffer()?)),
         _ => None,
     }
 }
@@ -169,17 +168,17 @@ fn class_fact(fact: &JgFact) -> Option<Fact>
     ensures { result ≡ facts.class_fact fact.now }
 {
     match fact.word {
-        16 => Some(Fact::Meet {
+        MET => Some(Fact::Meet {
             class: fact.first,
             length: fact.second,
         }),
-        17 => Some(Fact::Gone(thing_of(fact)?)),
-        18 => Some(Fact::Link {
+        GONE => Some(Fact::Gone(thing_of(fact)?)),
+        LINKED => Some(Fact::Link {
             class: fact.first,
             native: fact.second,
         }),
-        19 => Some(Fact::Unlink(fact.first)),
-        20 => Some(Fact::Warn(fact.first)),
+        UNLINKED => Some(Fact::Unlink(fact.first)),
+        WARNED => Some(Fact::Warn(fact.first)),
         _ => None,
     }
 }
@@ -189,16 +188,16 @@ fn checked_fact(fact: &JgFact, tid: Tid) -> Option<Checked>
     ensures { result ≡ facts.checked_fact fact.now tid }
 {
     match fact.word {
-        21 => Some(Checked::Local {
+        IS_LOCAL => Some(Checked::Local {
             tid,
             n: fact.name.number,
             object: fact.object.object()?,
         }),
-        22 => Some(Checked::Pending {
+        IS_PENDING => Some(Checked::Pending {
             tid,
             object: fact.object.object()?,
         }),
-        23 => Some(Checked::Length {
+        IS_LENGTH => Some(Checked::Length {
             object: thing_of(fact)?,
             length: fact.second,
         }),
@@ -206,7 +205,7 @@ fn checked_fact(fact: &JgFact, tid: Tid) -> Option<Checked>
     }
 }
 
-/// As [`fact_of`], of numbers whose word is [`HANDED`].
+/// As [`fact_of`], of numbers whose word is [`GOT`].
 #[inline(always)]
 pub(crate) fn handed(fact: &JgFact) -> Option<Fact>
     ensures { fact.now.word ≡ 10 → result ≡ facts.fact_of fact.now }
@@ -229,10 +228,10 @@ pub(crate) fn fact_of(fact: &JgFact) -> Option<Fact>
 {
     let tid = thread_of(fact.thread)?;
     match fact.word {
-        1..=7 => frame_fact(fact, tid),
-        8..=9 | 14..=15 => holding_fact(fact, tid),
-        10..=13 => name_fact(fact, tid),
-        16..=20 => class_fact(fact),
+        BEGINS..=ENSURED => frame_fact(fact, tid),
+        RAISED..=CALMED | OWNS..=FREED => holding_fact(fact, tid),
+        GOT..=GAVE => name_fact(fact, tid),
+        MET..=WARNED => class_fact(fact),
         _ => Some(Fact::Checked(checked_fact(fact, tid)?)),
     }
 }

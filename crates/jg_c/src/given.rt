@@ -3,6 +3,7 @@
 ghost use Rattle.std.specs.Prelude.{◌≡◌};
 ghost use Rattle.jg_c.specs.Given as specs;
 
+use crate::numbers::{ITEMS, NOTHING, NULL, OBJECT, THREW};
 use crate::value::{JgValue, of_buffer, of_environment, of_object, of_reference};
 use jg_core::{Given, Says};
 use jg_words::ObjId;
@@ -12,14 +13,14 @@ pub(crate) fn says_of(value: &JgValue) -> Option<Says>
     ensures { result ≡ specs.says_of value.now }
 {
     match value.kind {
-        0 => Some(Says::Done),
-        1 => Some(Says::Null),
-        7 => Some(Says::Object(ObjId(value.number))),
-        15 => match u32::try_from(value.number) {
+        NOTHING => Some(Says::Done),
+        NULL => Some(Says::Null),
+        OBJECT => Some(Says::Object(ObjId(value.number))),
+        ITEMS => match u32::try_from(value.number) {
             Ok(count) => Some(Says::Items(count)),
             Err(_) => None,
         },
-        16 => Some(Says::Threw(ObjId(value.number))),
+        THREW => Some(Says::Threw(ObjId(value.number))),
         _ => None,
     }
 }

@@ -9,10 +9,11 @@ ghost use Rattle.jg_c.specs.Sessions.{Of, Steps, core_of};
 ghost use Rattle.jg_c.specs.Telling.{IsKept, LetsGo, LetsGoOrKeeps, objects_of};
 ghost use Rattle.jg_c.specs.Values as values;
 
-use crate::error::{BAD_THREAD, CLOSED, DONE, IMPOSSIBLE, NO_MEMORY};
+use crate::error::DONE;
 use crate::handle::Handle;
 use crate::held::{JgHeld, of_held};
 use crate::lines::write_line;
+use crate::numbers::{BAD_THREAD, CLOSED, IMPOSSIBLE, NO_MEMORY};
 use crate::session::CoreSession;
 use crate::value::thread_of;
 use jg_policy::Setup;

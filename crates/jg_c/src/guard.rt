@@ -10,12 +10,10 @@ ghost use Rattle.jg_c.specs.Opened.{IsOpening, IsUnopened};
 ghost use Rattle.jg_c.specs.Sessions.{Has, Of, Steps, guard_of};
 
 use crate::copying::copy_out;
-use crate::error::{
-    BAD_VERSION, CLOSED, DONE, IS_OPEN, LIMIT, NO_MEMORY, NO_RULE, UNWRITTEN, of_script_fault,
-    of_setup_fault,
-};
+use crate::error::{DONE, of_script_fault, of_setup_fault};
 use crate::handle::Handle;
-use crate::opening::{VERSION, read_setup};
+use crate::numbers::{ABI, BAD_VERSION, CLOSED, IS_OPEN, LIMIT, NO_MEMORY, NO_RULE, UNWRITTEN};
+use crate::opening::read_setup;
 use crate::session::{GuardSession, Session};
 use jg_explain::explain_newest;
 use jg_guard::{Guard, Refusal};
@@ -74,7 +72,7 @@ pub extern "C" fn jg_guard_open(
     match guard.slot().get_mut() {
         Some(_) => IS_OPEN,
         None => {
-            if version != VERSION {
+            if version != ABI {
                 return BAD_VERSION;
             }
             match boxed_guard(alloc, text, limit) {

@@ -3,6 +3,7 @@
 ghost use Rattle.std.specs.Prelude.{◌≡◌, Some};
 ghost use Rattle.jg_c.specs.Holders.{holder_of};
 
+use crate::numbers::{BY_BUFFER, BY_MONITOR, BY_NOTHING, BY_PENDING, BY_REFERENCE, BY_SETUP};
 use crate::value::{JgValue, of_buffer, of_reference};
 use jg_core::{Holder, StillHeld};
 
@@ -20,30 +21,18 @@ pub struct JgHeld {
     pub name: JgValue,
 }
 
-const NOTHING: u32 = 0;
-
-const SETUP: u32 = 1;
-
-const REFERENCE: u32 = 2;
-
-const PENDING: u32 = 3;
-
-const BUFFER: u32 = 4;
-
-const MONITOR: u32 = 5;
-
 /// The numbers of what keeps the object at this place.
 pub(crate) fn of_held(held: StillHeld) -> JgHeld
     ensures place { result.place ≡ held.place }
     ensures by { holder_of result ≡ Some held.by }
 {
     let (by, thread, name) = match held.by {
-        Holder::Nothing => (NOTHING, 0, JgValue::NOTHING),
-        Holder::Setup => (SETUP, 0, JgValue::NOTHING),
-        Holder::Reference(reference) => (REFERENCE, 0, of_reference(reference)),
-        Holder::Pending(tid) => (PENDING, u32::from(tid.0), JgValue::NOTHING),
-        Holder::Buffer(buffer) => (BUFFER, 0, of_buffer(buffer)),
-        Holder::Monitor(tid) => (MONITOR, u32::from(tid.0), JgValue::NOTHING),
+        Holder::Nothing => (BY_NOTHING, 0, JgValue::NOTHING),
+        Holder::Setup => (BY_SETUP, 0, JgValue::NOTHING),
+        Holder::Reference(reference) => (BY_REFERENCE, 0, of_reference(reference)),
+        Holder::Pending(tid) => (BY_PENDING, u32::from(tid.0), JgValue::NOTHING),
+        Holder::Buffer(buffer) => (BY_BUFFER, 0, of_buffer(buffer)),
+        Holder::Monitor(tid) => (BY_MONITOR, u32::from(tid.0), JgValue::NOTHING),
     };
     JgHeld {
         place: held.place as u64,

@@ -6,8 +6,8 @@ ghost use Rattle.jg_c.specs.Lines.{LeaksLines};
 ghost use Rattle.jg_c.specs.Sessions.{Of, core_of};
 
 use crate::copying::copy_out;
-use crate::error::{CLOSED, NO_MEMORY};
 use crate::handle::Handle;
+use crate::numbers::{CLOSED, NO_MEMORY};
 use jg_core::Core;
 use jg_script::write_leaks;
 use std::alloc::Global;

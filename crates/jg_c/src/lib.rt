@@ -17,6 +17,7 @@ mod held;
 mod leaks;
 mod lines;
 mod names;
+mod numbers;
 mod opening;
 mod operand;
 mod question;

@@ -11,9 +11,9 @@ ghost use Rattle.jg_c.specs.Sessions.{Of, core_of};
 ghost use Rattle.jg_c.specs.Values as values;
 
 use crate::copying::copy_out;
-use crate::error::{BAD_FACT, CLOSED, NO_MEMORY, NO_TEXT};
 use crate::fact::{JgFact, fact_of};
 use crate::handle::Handle;
+use crate::numbers::{BAD_FACT, CLOSED, NO_MEMORY, NO_TEXT};
 use crate::question::{Head, read_question};
 use crate::session::CoreSession;
 use crate::value::{JgValue, thread_of};

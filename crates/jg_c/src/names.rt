@@ -7,8 +7,11 @@ ghost use Rattle.jg_c.specs.Names as specs;
 ghost use Rattle.jg_c.specs.Names.{IsClassNamed, IsNativeNamed, IsOfObjectArrays};
 ghost use Rattle.jg_c.specs.Sessions.{Of, core_of};
 
-use crate::error::{BAD_VALUE, CLOSED, NO_MEMORY, NO_NAME};
 use crate::handle::Handle;
+use crate::numbers::{
+    BAD_VALUE, CLOSED, KIND_ARRAY_CLASS, KIND_CLASS, KIND_DOUBLES, KIND_FLOATS, KIND_OBJECT,
+    KIND_OBJECTS, KIND_THROWABLE, NO_MEMORY, NO_NAME,
+};
 use jg_core::Core;
 use jg_judge::OwnKind;
 use jg_policy::Setup;
@@ -114,20 +117,17 @@ fn own_kind(number: u32) -> Option<OwnKind>
     ensures { result ≡ specs.own_kind number }
 {
     match number {
-        0 => Some(OwnKind::Object),
-        1 => Some(OwnKind::Throwable),
-        2 => Some(OwnKind::Class),
-        3 => Some(OwnKind::ClassOfArrays),
-        4 => Some(OwnKind::Floats),
-        5 => Some(OwnKind::Doubles),
+        KIND_OBJECT => Some(OwnKind::Object),
+        KIND_THROWABLE => Some(OwnKind::Throwable),
+        KIND_CLASS => Some(OwnKind::Class),
+        KIND_ARRAY_CLASS => Some(OwnKind::ClassOfArrays),
+        KIND_FLOATS => Some(OwnKind::Floats),
+        KIND_DOUBLES => Some(OwnKind::Doubles),
         _ => None,
     }
 }
 
-/// `JG_KIND_OBJECTS`: arrays of objects. Their class is one of the setup's.
-const OBJECTS: u32 = 6;
-
-/// The class `[Ljava/lang/Object;`.
+/// The class `[Ljava/lang/Object;`, that of arrays of objects.
 const OBJECT_ARRAY: i64 = 3;
 
 fn class_of(core: &Core, kind: u32) -> i64
@@ -135,7 +135,7 @@ fn class_of(core: &Core, kind: u32) -> i64
     ensures objects { kind ≡ 6 → IsOfObjectArrays core.now.setup result }
     ensures numbers { result ≢ errors.closed }
 {
-    if kind == OBJECTS {
+    if kind == KIND_OBJECTS {
         return OBJECT_ARRAY;
     }
     match own_kind(kind) {

@@ -6,8 +6,9 @@ ghost use Rattle.jg_c.specs.Errors as errors;
 ghost use Rattle.jg_c.specs.Opened.{IsFresh, IsFaulty, IsOpening, IsUnopened};
 ghost use Rattle.jg_c.specs.Sessions.{Has, core_of};
 
-use crate::error::{BAD_VERSION, CLOSED, DONE, IS_OPEN, NO_MEMORY, of_setup_fault};
+use crate::error::{DONE, of_setup_fault};
 use crate::handle::Handle;
+use crate::numbers::{ABI, BAD_VERSION, CLOSED, IS_OPEN, NO_MEMORY};
 use crate::session::{CoreSession, Session};
 use jg_core::Core;
 use jg_judge::Bounds;
@@ -15,9 +16,6 @@ use jg_policy::{Setup, SetupFault};
 use jg_record::Lists;
 use std::alloc::Global;
 use std::str;
-
-/// The version of jg.h.
-pub(crate) const VERSION: u32 = 1;
 
 /// By which numbers questions are judged. It is `jg_bounds` in jg.h.
 #[repr(C)]
@@ -105,7 +103,7 @@ pub extern "C" fn jg_core_open(
     match core.slot().get_mut() {
         Some(_) => IS_OPEN,
         None => {
-            if version != VERSION {
+            if version != ABI {
                 return BAD_VERSION;
             }
             match boxed_core(alloc, text, bounds) {

@@ -3,28 +3,9 @@
 ghost use Rattle.std.specs.Prelude.{◌≡◌};
 ghost use Rattle.jg_c.specs.Operands as operands;
 
+use crate::numbers::{BUFFER, CLASS, ID, LIST, NAME, NATIVE, NULL, NUMBER, WEAK, WIDE};
 use crate::value::JgValue;
 use jg_judge::Argument;
-
-const NULL: u32 = 1;
-
-const WEAK: u32 = 4;
-
-const BUFFER: u32 = 5;
-
-const NUMBER: u32 = 8;
-
-const VALUE: u32 = 9;
-
-const ID: u32 = 10;
-
-const CLASS: u32 = 11;
-
-const NATIVE: u32 = 12;
-
-const NAME: u32 = 13;
-
-const LIST: u32 = 14;
 
 /// Whether it fits or is stated: 1 where it does, 0 where not.
 fn flag_of(detail: u32) -> Option<bool>
@@ -69,7 +50,7 @@ pub(crate) fn operand_of(most: u64, value: JgValue) -> Option<Argument>
         NULL..=WEAK => Some(Argument::Reference(value.reference()?)),
         BUFFER => Some(Argument::Buffer(value.buffer()?)),
         NUMBER => Some(Argument::Number(number_of(value.number)?)),
-        VALUE => Some(Argument::Value(value.number.cast_signed())),
+        WIDE => Some(Argument::Value(value.number.cast_signed())),
         ID => Some(Argument::Id {
             fits: flag_of(value.detail)?,
         }),

@@ -4,7 +4,7 @@ ghost use Rattle.std.specs.Prelude.{◌≡◌, ◌≢◌, Some, None, Ok, Err, I
 ghost use Rattle.jg_c.specs.Errors as errors;
 ghost use Rattle.jg_c.specs.Questions.{most_items, operands_of, place_of, question_of};
 
-use crate::error::{BAD_THREAD, BAD_VALUE, NO_FUNCTION, NO_MEMORY};
+use crate::numbers::{BAD_THREAD, BAD_VALUE, NO_FUNCTION, NO_MEMORY};
 use crate::operand::operand_of;
 use crate::value::{JgValue, thread_of};
 use jg_judge::Argument;

@@ -7,7 +7,7 @@ ghost use Rattle.jg_c.specs.Lines.{Writes};
 ghost use Rattle.jg_c.specs.Opened.{IsFaulty, TellsFault, TellsPlace};
 
 use crate::copying::copy_out;
-use crate::error::NO_MEMORY;
+use crate::numbers::NO_MEMORY;
 use crate::opening::{MAX_BYTES, read_setup};
 use jg_fault_text::push_setup_fault;
 use jg_policy::SetupFault;

@@ -1,8 +1,10 @@
 //! A core is told.
 
-ghost use Rattle.std.specs.Prelude.{◌≡◌, ◌≢◌, ◌↔◌, None, Some, pos};
+ghost use Rattle.std.specs.Prelude.{◌≡◌, ◌≢◌, ◌↔◌, List, None, Some, pos};
 ghost use Rattle.jg_core.specs.Expected.{told as told_of};
-ghost use Rattle.jg_core.specs.Kernel.{Stayed};
+ghost use Rattle.jg_core.specs.declared.fact.Fact.{Fact};
+ghost use Rattle.jg_core.specs.Facts.{parts_of};
+ghost use Rattle.jg_core.specs.Kernel.{CoreStands, Stayed};
 ghost use Rattle.jg_c.specs.Errors as errors;
 ghost use Rattle.jg_c.specs.Facts as facts;
 ghost use Rattle.jg_c.specs.Given as givens;
@@ -10,15 +12,18 @@ ghost use Rattle.jg_c.specs.Sessions.{Of, Steps, core_of};
 ghost use Rattle.jg_c.specs.Telling as specs;
 ghost use Rattle.jg_c.specs.Tickets as tickets;
 
-use crate::error::{BAD_FACT, BAD_TICKET, BAD_VALUE, CLOSED, DONE, IMPOSSIBLE, of_untold};
-use crate::fact::{HANDED, JgFact, LOST, fact_of, handed, lost};
+use crate::error::{DONE, of_untold};
+use crate::fact::{JgFact, fact_of, handed, lost};
 use crate::given::{of_given, says_of};
 use crate::handle::Handle;
+use crate::numbers::{BAD_FACT, BAD_TICKET, BAD_VALUE, CLOSED, GOT, IMPOSSIBLE, LOST};
 use crate::session::CoreSession;
-use crate::ticket::{JgTicket, ticket_of};
+use crate::ticket::{JgTicket, mark_told, ticket_of, untold_ticket_of};
 use crate::told::of_fact;
 use crate::value::JgValue;
-use jg_core::{Expected, Fact, Says, Ticket, told};
+use jg_core::{Core, Expected, Fact, Says, Ticket, told};
+use jg_judge::is_kind;
+use jg_rows::ObjectKind;
 
 /// What `jg_told` answers where it wrote a fact.
 const WRITTEN: i32 = 1;
@@ -64,7 +69,7 @@ fn tell_numbers(asked: &mut CoreSession, fact: &JgFact, given: &mut JgValue) -> 
     ensures bounds { asked.new.bounds ≡ asked.old.bounds }
 {
     match fact.word {
-        HANDED => tell_stated(asked, handed(fact), given),
+        GOT => tell_stated(asked, handed(fact), given),
         LOST => tell_stated(asked, lost(fact), given),
         _ => tell_stated(asked, fact_of(fact), given),
     }
@@ -88,6 +93,16 @@ pub extern "C" fn jg_tell(core: &mut Handle, fact: &JgFact, given: &mut JgValue)
     }
 }
 
+/// Whether a machine may say so: what it threw can be thrown.
+fn can_say(core: &Core, says: Says) -> bool
+    ensures { (w : List Fact) → CoreStands core.now w → result ≡ specs.can_say core.now.setup (parts_of w) says }
+{
+    match says {
+        Says::Threw(object) => is_kind(&core.view(), ObjectKind::ThrowableObject, object),
+        _ => true,
+    }
+}
+
 #[inline(always)]
 fn take_return(asked: &mut CoreSession, ticket: Ticket, says: Says, given: &mut JgValue) -> i32
     ensures returns { specs.Returns asked.old asked.new ticket says given.new result }
@@ -96,6 +111,9 @@ fn take_return(asked: &mut CoreSession, ticket: Ticket, says: Says, given: &mut 
     ensures stayed { result ≢ errors.done → Stayed asked.old.core asked.new.core }
     ensures bounds { asked.new.bounds ≡ asked.old.bounds }
 {
+    if !can_say(&asked.core, says) {
+        return IMPOSSIBLE;
+    }
     match asked.core.returned(ticket, says) {
         Ok(out) => {
             *given = of_given(out);
@@ -105,18 +123,43 @@ fn take_return(asked: &mut CoreSession, ticket: Ticket, says: Says, given: &mut 
     }
 }
 
-#[inline(always)]
-fn did(asked: &mut CoreSession, ticket: &JgTicket, says: &JgValue, given: &mut JgValue) -> i32
-    ensures did { specs.Did asked.old asked.new (tickets.ticket_of ticket.now) (givens.says_of says.now) given.new
-        result }
+/// Takes what the ticket's call implies, and marks the ticket.
+fn take_told(
+    asked: &mut CoreSession,
+    ticket: &mut JgTicket,
+    stated: Ticket,
+    says: Says,
+    given: &mut JgValue,
+) -> i32
+    ensures returns { specs.Returns asked.old asked.new stated says given.new result }
+    ensures told { result ≡ errors.done → tickets.IsMarked ticket.old ticket.new }
+    ensures untold { result ≢ errors.done → ticket.new ≡ ticket.old }
     ensures kept { result ≢ errors.done → given.new ≡ given.old }
     ensures numbers { result ≢ errors.closed }
     ensures stayed { result ≢ errors.done → Stayed asked.old.core asked.new.core }
     ensures bounds { asked.new.bounds ≡ asked.old.bounds }
 {
-    match ticket_of(ticket) {
-        Some(ticket) => match says_of(says) {
-            Some(says) => take_return(asked, ticket, says, given),
+    let number = take_return(asked, stated, says, given);
+    if number == DONE {
+        mark_told(ticket);
+    }
+    number
+}
+
+#[inline(always)]
+fn did(asked: &mut CoreSession, ticket: &mut JgTicket, says: &JgValue, given: &mut JgValue) -> i32
+    ensures did { specs.Did asked.old asked.new (tickets.untold_ticket_of ticket.old) (givens.says_of says.now)
+        given.new result }
+    ensures told { result ≡ errors.done → tickets.IsMarked ticket.old ticket.new }
+    ensures untold { result ≢ errors.done → ticket.new ≡ ticket.old }
+    ensures kept { result ≢ errors.done → given.new ≡ given.old }
+    ensures numbers { result ≢ errors.closed }
+    ensures stayed { result ≢ errors.done → Stayed asked.old.core asked.new.core }
+    ensures bounds { asked.new.bounds ≡ asked.old.bounds }
+{
+    match untold_ticket_of(ticket) {
+        Some(stated) => match says_of(says) {
+            Some(says) => take_told(asked, ticket, stated, says, given),
             None => BAD_VALUE,
         },
         None => BAD_TICKET,
@@ -166,7 +209,8 @@ pub extern "C" fn jg_is_in_doubt(ticket: &JgTicket) -> i32
     }
 }
 
-/// Whether anything may come of the ticket's call that is to be told, where it threw nothing: 1, or 0 where nothing does.
+/// Whether anything may come of the ticket's call that is to be told, where it threw nothing: 1, or 0 where nothing
+/// does.
 #[unsafe(no_mangle)]
 pub extern "C" fn jg_tells(ticket: &JgTicket) -> i32
     ensures is { result ≡ specs.tells (tickets.ticket_of ticket.now) }
@@ -182,18 +226,20 @@ pub extern "C" fn jg_tells(ticket: &JgTicket) -> i32
     }
 }
 
-/// Takes what a call implies that returned, by what the machine says of it. The name of what it handed out is written to
-/// `given`.
+/// Takes what a call implies that returned, by what the machine says of it. The name of what it handed out is written
+/// to `given`, and the ticket is marked: it can be told no second time.
 #[unsafe(no_mangle)]
 pub extern "C" fn jg_did(
     core: &mut Handle,
-    ticket: &JgTicket,
+    ticket: &mut JgTicket,
     says: &JgValue,
     given: &mut JgValue,
 ) -> i32
     ensures closed { (result ≡ errors.closed) ↔ (core_of core.old.value ≡ None) }
-    ensures did { Steps (core_of core.old.value) (core_of core.new.value)
-        (λ old new. specs.Did old new (tickets.ticket_of ticket.now) (givens.says_of says.now) given.new result) }
+    ensures did { Steps (core_of core.old.value) (core_of core.new.value) (λ old new.
+        specs.Did old new (tickets.untold_ticket_of ticket.old) (givens.says_of says.now) given.new result) }
+    ensures told { result ≡ errors.done → tickets.IsMarked ticket.old ticket.new }
+    ensures untold { result ≢ errors.done → ticket.new ≡ ticket.old }
     ensures kept { result ≢ errors.done → given.new ≡ given.old }
     ensures stayed { result ≢ errors.done → Steps (core_of core.old.value) (core_of core.new.value)
         (λ old new. Stayed old.core new.core) }

@@ -8,7 +8,7 @@ ghost use Rattle.jg_c.specs.Texts as specs;
 ghost use Rattle.jg_c.specs.Texts.{TellsRule};
 
 use crate::copying::copy_out;
-use crate::error::NO_RULE;
+use crate::numbers::NO_RULE;
 use jg_denial_text::{help, sentence};
 use jg_version::VERSION;
 use jg_words::Rule;

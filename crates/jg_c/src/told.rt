@@ -5,6 +5,11 @@ ghost use Rattle.jg_c.specs.Facts as facts;
 ghost use Rattle.jg_c.specs.Values as values;
 
 use crate::fact::JgFact;
+use crate::numbers::{
+    BEGINS, BOOLEANS, BYTES, CALMED, CHARS, CRITICAL, CRITICAL_STRING, DOUBLES, ENDS, ENSURED,
+    ENTERS, FLOATS, FREED, GAVE, GONE, GOT, INTS, IS_LENGTH, IS_LOCAL, IS_PENDING, LEAVES, LENT,
+    LINKED, LONGS, LOST, MET, OWNS, POPPED, PUSHED, RAISED, SHORTS, STRING, UNLINKED, UTF, WARNED,
+};
 use crate::value::{JgValue, number_of, of_buffer, of_object, of_reference};
 use jg_core::{Checked, Fact};
 use jg_table_buffers::Family;
@@ -50,18 +55,18 @@ pub(crate) fn of_family(family: Family) -> u32
     ensures { facts.family_of result ≡ Some family }
 {
     match family {
-        Family::Elements(ItemType::Of(Primitive::Boolean)) => 0,
-        Family::Elements(ItemType::Of(Primitive::Byte)) => 1,
-        Family::Elements(ItemType::Of(Primitive::Char)) => 2,
-        Family::Elements(ItemType::Of(Primitive::Short)) => 3,
-        Family::Elements(ItemType::Of(Primitive::Int)) => 4,
-        Family::Elements(ItemType::Of(Primitive::Long)) => 5,
-        Family::Elements(ItemType::Float) => 6,
-        Family::Elements(ItemType::Double) => 7,
-        Family::Chars => 8,
-        Family::UtfChars => 9,
-        Family::ArrayCritical => 10,
-        Family::StringCritical => 11,
+        Family::Elements(ItemType::Of(Primitive::Boolean)) => BOOLEANS,
+        Family::Elements(ItemType::Of(Primitive::Byte)) => BYTES,
+        Family::Elements(ItemType::Of(Primitive::Char)) => CHARS,
+        Family::Elements(ItemType::Of(Primitive::Short)) => SHORTS,
+        Family::Elements(ItemType::Of(Primitive::Int)) => INTS,
+        Family::Elements(ItemType::Of(Primitive::Long)) => LONGS,
+        Family::Elements(ItemType::Float) => FLOATS,
+        Family::Elements(ItemType::Double) => DOUBLES,
+        Family::Chars => STRING,
+        Family::UtfChars => UTF,
+        Family::ArrayCritical => CRITICAL,
+        Family::StringCritical => CRITICAL_STRING,
     }
 }
 
@@ -75,16 +80,16 @@ fn of_checked(checked: Checked) -> JgFact
                 ..JgValue::NOTHING
             },
             object: of_kept(object),
-            ..of_thread(21, tid)
+            ..of_thread(IS_LOCAL, tid)
         },
         Checked::Pending { tid, object } => JgFact {
             object: of_kept(object),
-            ..of_thread(22, tid)
+            ..of_thread(IS_PENDING, tid)
         },
         Checked::Length { object, length } => JgFact {
             object: of_object(object),
             second: length,
-            ..of_thread(23, Tid(0))
+            ..of_thread(IS_LENGTH, Tid(0))
         },
     }
 }
@@ -94,38 +99,38 @@ pub(crate) fn of_fact(fact: Fact) -> JgFact
     ensures { facts.fact_of result ≡ Some fact }
 {
     match fact {
-        Fact::Begin(tid) => of_thread(1, tid),
-        Fact::End(tid) => of_thread(2, tid),
-        Fact::Enter(tid) => of_thread(3, tid),
+        Fact::Begin(tid) => of_thread(BEGINS, tid),
+        Fact::End(tid) => of_thread(ENDS, tid),
+        Fact::Enter(tid) => of_thread(ENTERS, tid),
         Fact::Leave { tid, kept } => JgFact {
             object: of_kept(kept),
-            ..of_thread(4, tid)
+            ..of_thread(LEAVES, tid)
         },
         Fact::Push { tid, room } => JgFact {
             first: room,
-            ..of_thread(5, tid)
+            ..of_thread(PUSHED, tid)
         },
         Fact::Pop { tid, kept } => JgFact {
             object: of_kept(kept),
-            ..of_thread(6, tid)
+            ..of_thread(POPPED, tid)
         },
         Fact::Ensure { tid, room } => JgFact {
             first: room,
-            ..of_thread(7, tid)
+            ..of_thread(ENSURED, tid)
         },
         Fact::Raise { tid, object } => JgFact {
             object: of_object(object),
-            ..of_thread(8, tid)
+            ..of_thread(RAISED, tid)
         },
-        Fact::Calm(tid) => of_thread(9, tid),
+        Fact::Calm(tid) => of_thread(CALMED, tid),
         Fact::Hand { tid, kind, object } => JgFact {
             object: of_object(object),
             first: number_of(kind),
-            ..of_thread(10, tid)
+            ..of_thread(GOT, tid)
         },
         Fact::Lost(reference) => JgFact {
             name: of_reference(reference),
-            ..of_thread(11, Tid(0))
+            ..of_thread(LOST, Tid(0))
         },
         Fact::Lend {
             tid,
@@ -138,28 +143,28 @@ pub(crate) fn of_fact(fact: Fact) -> JgFact
             object: of_object(object),
             first: of_family(family),
             second: length,
-            ..of_thread(12, tid)
+            ..of_thread(LENT, tid)
         },
         Fact::Back(buffer) => JgFact {
             name: of_buffer(buffer),
-            ..of_thread(13, Tid(0))
+            ..of_thread(GAVE, Tid(0))
         },
         Fact::Own { tid, object } => JgFact {
             object: of_object(object),
-            ..of_thread(14, tid)
+            ..of_thread(OWNS, tid)
         },
         Fact::Free { tid, object } => JgFact {
             object: of_object(object),
-            ..of_thread(15, tid)
+            ..of_thread(FREED, tid)
         },
-        Fact::Meet { class, length } => of_class(16, class, length),
+        Fact::Meet { class, length } => of_class(MET, class, length),
         Fact::Gone(object) => JgFact {
             object: of_object(object),
-            ..of_thread(17, Tid(0))
+            ..of_thread(GONE, Tid(0))
         },
-        Fact::Link { class, native } => of_class(18, class, native),
-        Fact::Unlink(class) => of_class(19, class, 0),
-        Fact::Warn(module) => of_class(20, module, 0),
+        Fact::Link { class, native } => of_class(LINKED, class, native),
+        Fact::Unlink(class) => of_class(UNLINKED, class, 0),
+        Fact::Warn(module) => of_class(WARNED, module, 0),
         Fact::Checked(checked) => of_checked(checked),
     }
 }

@@ -4,7 +4,7 @@ ghost use Rattle.std.specs.Prelude.{◌≡◌, ◌⊎◌, ℕ, List, pos};
 ghost use Rattle.jg_table_heap.specs.Spelling.{IsSpelt};
 ghost use Rattle.jg_c.specs.Errors as errors;
 
-use crate::error::NO_MEMORY;
+use crate::numbers::NO_MEMORY;
 use jg_table_heap::from_mutf8;
 use std::alloc::Global;
 

@@ -3,6 +3,7 @@
 ghost use Rattle.std.specs.Prelude.{◌≡◌, Some};
 ghost use Rattle.jg_c.specs.Values as values;
 
+use crate::numbers::{BUFFER, ENVIRONMENT, GLOBAL, LOCAL, NOTHING, NULL, OBJECT, WEAK};
 use jg_words::{BufId, EnvId, Kind, ObjId, Ref, Tid};
 
 /// A value as C holds it: the name of a reference, a buffer, an environment or an object; an operand of a question; or
@@ -18,22 +19,6 @@ pub struct JgValue {
     /// Its number, or how many items it has; a number below 0 in two's complement.
     pub number: u64,
 }
-
-const NOTHING: u32 = 0;
-
-const NULL: u32 = 1;
-
-const LOCAL: u32 = 2;
-
-const GLOBAL: u32 = 3;
-
-const WEAK: u32 = 4;
-
-const BUFFER: u32 = 5;
-
-const ENVIRONMENT: u32 = 6;
-
-const OBJECT: u32 = 7;
 
 /// The thread of this number, of which there are 65,536.
 #[inline(always)]

@@ -4,8 +4,10 @@ ghost use Rattle.std.specs.Prelude.{◌≡◌, ◌≢◌, false};
 ghost use Rattle.jg_core.specs.Asking.{is_passed};
 ghost use Rattle.jg_c.specs.Errors as errors;
 ghost use Rattle.jg_c.specs.Questions.{IsAnswered, counted};
+ghost use Rattle.jg_c.specs.Tickets.{is_told};
 
-use crate::error::{DONE, MISFIT, NO_FUNCTION};
+use crate::error::DONE;
+use crate::numbers::{MISFIT, NO_FUNCTION};
 use crate::ticket::{JgTicket, of_ticket};
 use jg_core::Answer;
 
@@ -41,6 +43,7 @@ pub(crate) fn write_answer(answer: Answer, verdict: &mut JgVerdict) -> i32
     ensures is { IsAnswered answer verdict.new result }
     ensures kept { result ≢ errors.done → verdict.new ≡ verdict.old }
     ensures passed { result ≢ errors.done → is_passed answer ≡ false }
+    ensures untold { result ≡ errors.done → is_told verdict.new.ticket ≡ false }
     ensures numbers { (result ≢ errors.closed) × (result ≢ errors.no_memory) }
 {
     match answer {

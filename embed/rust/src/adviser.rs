@@ -5,6 +5,7 @@ use crate::error::{answered, Error};
 use crate::fact::Fact;
 use crate::ffi::{self, JgAdvice, JgAdviser, JgSpot};
 use crate::functions::Function;
+use crate::numbers;
 use crate::text;
 use crate::value::Value;
 use std::ptr::null_mut;
@@ -15,19 +16,19 @@ use std::ptr::null_mut;
 #[non_exhaustive]
 pub enum AdviceKind {
     /// A call after one that may have thrown, and nobody asked whether it did.
-    Unchecked = 1,
+    Unchecked = numbers::UNCHECKED,
     /// `JNI_ABORT` throws away what was written to a copy.
-    WritesLost,
+    WritesLost = numbers::WRITES_LOST,
     /// A buffer that `JNI_COMMIT` alone released is open at its session's end, or at the end.
-    CommittedAndKept,
+    CommittedAndKept = numbers::COMMITTED_AND_KEPT,
     /// A critical region of many calls, or in which objects went.
-    LongRegion,
+    LongRegion = numbers::LONG_REGION,
     /// A session ends while its thread owns a monitor.
-    MonitorAtDetachment,
+    MonitorAtDetachment = numbers::MONITOR_KEPT,
     /// FindClass of `Lname;` or of a name with dots.
-    DescriptorForName,
+    DescriptorForName = numbers::DESCRIPTOR,
     /// A frame holds more than ten times the local references that it has room for.
-    Growing,
+    Growing = numbers::GROWING,
 }
 
 impl AdviceKind {

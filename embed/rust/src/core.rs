@@ -1,16 +1,18 @@
 //! The core, in front of a machine that answers by itself.
 
-use crate::error::{answered, found, Error, NO_NAME};
+use crate::error::{answered, found, Error};
 use crate::fact::{Fact, Family, ObjectKind};
 use crate::ffi::{self, JgBounds, JgCore, JgFact, JgHeld, JgTicket, JgValue, JgVerdict};
 use crate::functions::Function;
 use crate::held::Holder;
+use crate::numbers;
 use crate::rule::Rule;
 use crate::text;
 use crate::value::{Buffer, Environment, Given, Kind, Object, Reference, Says, Value, NONE};
 use std::error;
 use std::fmt;
 use std::ptr::null_mut;
+use std::sync::atomic::{AtomicU64, Ordering};
 
 /// By which numbers rule 12 judges.
 #[derive(Clone, Copy, Debug, PartialEq, Eq)]
@@ -38,7 +40,11 @@ impl Bounds {
 /// told.
 #[derive(Debug, PartialEq, Eq)]
 #[must_use = "what came of the call is told by `Core::did`"]
-pub struct Ticket(JgTicket);
+pub struct Ticket {
+    numbers: JgTicket,
+    /// The core that wrote it ([`Core::id`]).
+    core: u64,
+}
 
 impl Ticket {
     /// Whether anything may come of the call that is to be told, where it threw nothing. Where nothing may, [`Core::did`]
@@ -46,7 +52,7 @@ impl Ticket {
     /// that answers `NULL`.
     pub fn tells(&self) -> bool {
         // SAFETY: the pointer is that of a value.
-        unsafe { ffi::jg_tells(&self.0) != 0 }
+        unsafe { ffi::jg_tells(&self.numbers) != 0 }
     }
 
     /// Whether the ticket of a denied call that the machine made all the same leaves open if something has ended: a
@@ -54,7 +60,7 @@ impl Ticket {
     /// Then [`Core::did`] takes [`Says::Null`] where it has ended, and [`Says::Done`] where it hasn't.
     pub fn is_in_doubt(&self) -> bool {
         // SAFETY: the pointer is that of a value.
-        unsafe { ffi::jg_is_in_doubt(&self.0) == 1 }
+        unsafe { ffi::jg_is_in_doubt(&self.numbers) == 1 }
     }
 
     /// The fact that [`Core::did`] tells of this ticket and of what the machine says, so that [`Core::fact_line`] can
@@ -65,7 +71,7 @@ impl Ticket {
     pub fn told(&self, says: Says) -> Result<Option<Fact>, Error> {
         let (says, mut fact) = (says.value(), UNTOLD);
         // SAFETY: the pointers are those of values.
-        let answer = unsafe { ffi::jg_told(&self.0, &says, &mut fact) };
+        let answer = unsafe { ffi::jg_told(&self.numbers, &says, &mut fact) };
         match answered(answer.into())? {
             0 => Ok(None),
             _ => Fact::of(fact)
@@ -119,16 +125,21 @@ pub enum Verdict {
 }
 
 impl Verdict {
-    fn of(verdict: JgVerdict) -> Result<Verdict, Error> {
-        if verdict.rule == 0 {
-            return Ok(Verdict::Passed(Ticket(verdict.ticket)));
+    /// The verdict that this core wrote.
+    fn of(verdict: JgVerdict, core: u64) -> Result<Verdict, Error> {
+        let ticket = Ticket {
+            numbers: verdict.ticket,
+            core,
+        };
+        if verdict.rule == numbers::PASSED {
+            return Ok(Verdict::Passed(ticket));
         }
         let rule = Rule::of_number(verdict.rule).ok_or(Error::Unknown(verdict.rule.into()))?;
         let operand = usize::try_from(verdict.operand).ok();
         Ok(Verdict::Denied {
             rule,
             operand: operand.and_then(|it| it.checked_sub(1)),
-            ticket: Ticket(verdict.ticket),
+            ticket,
         })
     }
 
@@ -195,7 +206,12 @@ const UNASKED: JgVerdict = JgVerdict {
 #[derive(Debug)]
 pub struct Core {
     handle: JgCore,
+    /// Which of the cores of this process it is: no other has had this number.
+    id: u64,
 }
+
+/// How many cores were opened.
+static OPENED: AtomicU64 = AtomicU64::new(0);
 
 // SAFETY: a handle may be used by any thread, by one call at a time; `&mut self` sees to that. The pointer in it keeps
 // `Core` from being `Sync`.
@@ -233,12 +249,13 @@ impl Core {
                 setup.as_ptr(),
                 setup.len(),
                 &bounds,
-                ffi::JG_VERSION,
+                numbers::ABI,
                 &mut handle,
             )
         };
         answered(answer.into())?;
-        Ok(Core { handle })
+        let id = OPENED.fetch_add(1, Ordering::Relaxed);
+        Ok(Core { handle, id })
     }
 
     /// The handle, for calls that take two.
@@ -270,7 +287,7 @@ impl Core {
             )
         };
         answered(answer.into())?;
-        Verdict::of(verdict)
+        Verdict::of(verdict, self.id)
     }
 
     /// Asks as [`Core::ask`] does, and answers the rule alone that is broken first, without a ticket; `None` where none
@@ -302,8 +319,8 @@ impl Core {
     }
 
     /// Asks, and where no rule is broken takes at once what the call ends: for deletions, releases, `PopLocalFrame`,
-    /// `MonitorExit`, `ExceptionClear`, `UnregisterNatives` and `NativeLeave`. Call it before the machine ends it, and
-    /// don't call [`Core::did`] after it. Beside the verdict it answers the name of what is handed out.
+    /// `MonitorExit`, `ExceptionClear`, `UnregisterNatives` and `NativeLeave`. Call it before the machine ends it. Beside
+    /// the verdict it answers the name of what is handed out. The ticket of a passed call is for [`Ticket::told`] alone.
     pub fn ending(
         &mut self,
         thread: u16,
@@ -327,15 +344,22 @@ impl Core {
             )
         };
         answered(answer.into())?;
-        Ok((Verdict::of(verdict)?, Given::of(given)))
+        Ok((Verdict::of(verdict, self.id)?, Given::of(given)))
     }
 
     /// Tells what came of a call once it has returned, by what the machine says of it. Answers the name of what
     /// it handed out. Where nothing was told it hands the ticket back; `?` lets that go, and passes the [`Error`] on.
-    pub fn did(&mut self, ticket: Ticket, says: Says) -> Result<Given, Untold> {
+    ///
+    /// [`Error::BadTicket`] where another core wrote the ticket, or [`Core::ending`] told its call;
+    /// [`Error::Impossible`] also where it threw what can't be thrown.
+    pub fn did(&mut self, mut ticket: Ticket, says: Says) -> Result<Given, Untold> {
+        if ticket.core != self.id {
+            let error = Error::BadTicket;
+            return Err(Untold { error, ticket });
+        }
         let (says, mut given) = (says.value(), NONE);
         // SAFETY: the handle is open, and nobody else uses it.
-        let answer = unsafe { ffi::jg_did(&mut self.handle, &ticket.0, &says, &mut given) };
+        let answer = unsafe { ffi::jg_did(&mut self.handle, &mut ticket.numbers, &says, &mut given) };
         match answered(answer.into()) {
             Ok(_) => Ok(Given::of(given)),
             Err(error) => Err(Untold { error, ticket }),
@@ -435,7 +459,7 @@ impl Core {
     pub fn class_named(&mut self, name: &str) -> Result<Option<u32>, Error> {
         // SAFETY: the handle is open, nobody else uses it, and the name is as long as is said.
         let answer = unsafe { ffi::jg_class_named(&mut self.handle, name.as_ptr(), name.len()) };
-        found(answer, NO_NAME)
+        found(answer, numbers::NO_NAME)
     }
 
     /// The number, from 1, of the native method of the class that has this name and this type, as `run` and `()V`, if
@@ -457,7 +481,7 @@ impl Core {
                 signature.len(),
             )
         };
-        found(answer, NO_NAME)
+        found(answer, numbers::NO_NAME)
     }
 
     /// The number of the class of objects of this kind, for those of classes that the setup doesn't state.

@@ -2,6 +2,7 @@
 
 use crate::functions;
 use crate::held::Holder;
+use crate::numbers;
 use std::error;
 use std::fmt;
 
@@ -77,7 +78,7 @@ pub enum Error {
     },
     /// 2^60 facts made something.
     Full,
-    /// The ticket is none.
+    /// The ticket is none of this core's, or its call was told already.
     BadTicket,
     /// The journal has as many entries as it may.
     Limit,
@@ -95,43 +96,37 @@ pub enum Error {
 
 /// The error of each answer below 0.
 const ERRORS: [(i64, Error); 27] = [
-    (-3, Error::BadVersion),
-    (-4, Error::NoMemory),
-    (-6, Error::BadValue),
-    (-8, Error::Misfit),
-    (-9, Error::BadFact),
-    (IMPOSSIBLE, Error::Impossible),
-    (-11, Error::Full),
-    (-12, Error::BadTicket),
-    (-13, Error::Limit),
-    (-14, Error::NoText),
-    (-16, Error::Unwritten),
-    (-32, Error::Setup(SetupFault::NotToml)),
-    (-33, Error::Setup(SetupFault::BadVersion)),
-    (-34, Error::Setup(SetupFault::UnknownKey)),
-    (-35, Error::Setup(SetupFault::Missing)),
-    (-36, Error::Setup(SetupFault::BadType)),
-    (-37, Error::Setup(SetupFault::BadMode)),
-    (-38, Error::Setup(SetupFault::BadName)),
-    (-39, Error::Setup(SetupFault::Duplicate)),
-    (-40, Error::Setup(SetupFault::TooMany)),
-    (-64, Error::Line(LineFault::LineTooLong)),
-    (-65, Error::Line(LineFault::NotAscii)),
-    (-66, Error::Line(LineFault::NoThread)),
-    (-67, Error::Line(LineFault::NoEnv)),
-    (-68, Error::Line(LineFault::UnknownFunction)),
-    (-69, Error::Line(LineFault::WrongCount)),
-    (-70, Error::Line(LineFault::BadOperand)),
+    (numbers::BAD_VERSION, Error::BadVersion),
+    (numbers::NO_MEMORY, Error::NoMemory),
+    (numbers::BAD_VALUE, Error::BadValue),
+    (numbers::MISFIT, Error::Misfit),
+    (numbers::BAD_FACT, Error::BadFact),
+    (numbers::IMPOSSIBLE, Error::Impossible),
+    (numbers::FULL, Error::Full),
+    (numbers::BAD_TICKET, Error::BadTicket),
+    (numbers::LIMIT, Error::Limit),
+    (numbers::NO_TEXT, Error::NoText),
+    (numbers::UNWRITTEN, Error::Unwritten),
+    (numbers::NOT_TOML, Error::Setup(SetupFault::NotToml)),
+    (numbers::SETUP_VERSION, Error::Setup(SetupFault::BadVersion)),
+    (numbers::UNKNOWN_KEY, Error::Setup(SetupFault::UnknownKey)),
+    (numbers::MISSING, Error::Setup(SetupFault::Missing)),
+    (numbers::BAD_TYPE, Error::Setup(SetupFault::BadType)),
+    (numbers::BAD_MODE, Error::Setup(SetupFault::BadMode)),
+    (numbers::BAD_NAME, Error::Setup(SetupFault::BadName)),
+    (numbers::DUPLICATE, Error::Setup(SetupFault::Duplicate)),
+    (numbers::TOO_MANY, Error::Setup(SetupFault::TooMany)),
+    (numbers::LINE_TOO_LONG, Error::Line(LineFault::LineTooLong)),
+    (numbers::NOT_ASCII, Error::Line(LineFault::NotAscii)),
+    (numbers::NO_THREAD, Error::Line(LineFault::NoThread)),
+    (numbers::NO_ENV, Error::Line(LineFault::NoEnv)),
+    (
+        numbers::UNKNOWN_FUNCTION,
+        Error::Line(LineFault::UnknownFunction),
+    ),
+    (numbers::WRONG_COUNT, Error::Line(LineFault::WrongCount)),
+    (numbers::BAD_OPERAND, Error::Line(LineFault::BadOperand)),
 ];
-
-/// `JG_NO_RULE`, which says that there is nothing to explain.
-pub(crate) const NO_RULE: i64 = -15;
-
-/// `JG_NO_NAME`, which says that the setup states no such class or native method.
-pub(crate) const NO_NAME: i64 = -17;
-
-/// `JG_IMPOSSIBLE`.
-const IMPOSSIBLE: i64 = -10;
 
 impl Error {
     fn of(answer: i64) -> Error {
@@ -147,7 +142,7 @@ impl Error {
         match (self, found) {
             (_, Some((number, _))) => *number,
             (Error::Unknown(answer), None) => *answer,
-            _ => IMPOSSIBLE,
+            _ => numbers::IMPOSSIBLE,
         }
     }
 
@@ -205,7 +200,7 @@ impl fmt::Display for Error {
                 write!(out, "object {place} of the list can't be gone: {by}")
             }
             Error::Full => out.write_str("2^60 facts made something"),
-            Error::BadTicket => out.write_str("the ticket is none"),
+            Error::BadTicket => out.write_str("the ticket is none of this core's, or its call was told already"),
             Error::Limit => out.write_str("limit"),
             Error::NoText => out.write_str("the line has no text"),
             Error::Unwritten => {
@@ -274,9 +269,10 @@ mod tests {
 
     #[test]
     fn what_is_not_found_is_none() {
-        assert_eq!(found(NO_NAME, NO_NAME), Ok(None));
-        assert_eq!(found(15, NO_NAME), Ok(Some(15)));
-        assert_eq!(found(-4, NO_NAME), Err(Error::NoMemory));
+        let (none, refused) = (numbers::NO_NAME, numbers::NO_MEMORY);
+        assert_eq!(found(none, none), Ok(None));
+        assert_eq!(found(15, none), Ok(Some(15)));
+        assert_eq!(found(refused, none), Err(Error::NoMemory));
     }
 
     #[test]

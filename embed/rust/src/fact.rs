@@ -1,60 +1,41 @@
 //! Facts: what a machine says is so.
 
 use crate::ffi::{JgFact, JgValue};
+use crate::numbers::{
+    self, BEGINS, CALMED, ENDS, ENSURED, ENTERS, FREED, GAVE, GONE, GOT, IS_LENGTH, IS_LOCAL,
+    IS_PENDING, LEAVES, LENT, LINKED, LOST, MET, NOTHING, OWNS, POPPED, PUSHED, RAISED, UNLINKED,
+    WARNED,
+};
 use crate::value::{kept, value, Buffer, Kind, Object, Reference, NONE, NO_OBJECT};
-
-const BEGINS: u32 = 1;
-const ENDS: u32 = 2;
-const ENTERS: u32 = 3;
-const LEAVES: u32 = 4;
-const PUSHED: u32 = 5;
-const POPPED: u32 = 6;
-const ENSURED: u32 = 7;
-const RAISED: u32 = 8;
-const CALMED: u32 = 9;
-const GOT: u32 = 10;
-const LOST: u32 = 11;
-const LENT: u32 = 12;
-const GAVE: u32 = 13;
-const OWNS: u32 = 14;
-const FREED: u32 = 15;
-const MET: u32 = 16;
-const GONE: u32 = 17;
-const LINKED: u32 = 18;
-const UNLINKED: u32 = 19;
-const WARNED: u32 = 20;
-const IS_LOCAL: u32 = 21;
-const IS_PENDING: u32 = 22;
-const IS_LENGTH: u32 = 23;
 
 /// A family of buffers, by the functions that lend and release them.
 #[derive(Clone, Copy, Debug, PartialEq, Eq, Hash)]
 #[repr(u32)]
 pub enum Family {
     /// Of `GetBooleanArrayElements`.
-    Booleans = 0,
+    Booleans = numbers::BOOLEANS,
     /// Of `GetByteArrayElements`.
-    Bytes,
+    Bytes = numbers::BYTES,
     /// Of `GetCharArrayElements`.
-    Chars,
+    Chars = numbers::CHARS,
     /// Of `GetShortArrayElements`.
-    Shorts,
+    Shorts = numbers::SHORTS,
     /// Of `GetIntArrayElements`.
-    Ints,
+    Ints = numbers::INTS,
     /// Of `GetLongArrayElements`.
-    Longs,
+    Longs = numbers::LONGS,
     /// Of `GetFloatArrayElements`.
-    Floats,
+    Floats = numbers::FLOATS,
     /// Of `GetDoubleArrayElements`.
-    Doubles,
+    Doubles = numbers::DOUBLES,
     /// Of `GetStringChars`.
-    String,
+    String = numbers::STRING,
     /// Of `GetStringUTFChars`.
-    Utf,
+    Utf = numbers::UTF,
     /// Of `GetPrimitiveArrayCritical`.
-    Critical,
+    Critical = numbers::CRITICAL,
     /// Of `GetStringCritical`.
-    CriticalString,
+    CriticalString = numbers::CRITICAL_STRING,
 }
 
 impl Family {
@@ -85,20 +66,20 @@ impl Family {
 #[non_exhaustive]
 pub enum ObjectKind {
     /// Of none of the other kinds.
-    Object = 0,
+    Object = numbers::KIND_OBJECT,
     /// It can be thrown.
-    Throwable,
+    Throwable = numbers::KIND_THROWABLE,
     /// A class object, of a class that is no array's.
-    Class,
+    Class = numbers::KIND_CLASS,
     /// A class object, of an array's class.
-    ArrayClass,
+    ArrayClass = numbers::KIND_ARRAY_CLASS,
     /// An array of float.
-    Floats,
+    Floats = numbers::KIND_FLOATS,
     /// An array of double.
-    Doubles,
+    Doubles = numbers::KIND_DOUBLES,
     /// An array of references, a `String[]` too. Who meets one as [`ObjectKind::Object`] gets false denials of rule 9
     /// ([`Rule::WrongType`](crate::Rule::WrongType)).
-    Objects,
+    Objects = numbers::KIND_OBJECTS,
 }
 
 /// What a machine says is so (docs/FORMATS.md, "A fact"). `thread` is the thread that it is of; where the other fields
@@ -242,7 +223,13 @@ impl Fact {
                 thread,
                 number,
                 object,
-            } => fact(IS_LOCAL, thread, value(0, 0, number), kept(object), (0, 0)),
+            } => fact(
+                IS_LOCAL,
+                thread,
+                value(NOTHING, 0, number),
+                kept(object),
+                (0, 0),
+            ),
             Fact::IsLength {
                 thread,
                 object,
@@ -385,8 +372,8 @@ mod tests {
     const FIELDS: JgFact = JgFact {
         word: 0,
         thread: 7,
-        name: value(0, 0, 0),
-        object: value(7, 0, 15),
+        name: NONE,
+        object: value(numbers::OBJECT, 0, 15),
         first: 2,
         second: 5,
     };
@@ -395,8 +382,8 @@ mod tests {
     fn numbers_come_back() {
         for word in BEGINS..=IS_LENGTH {
             let name = match word {
-                GAVE => value(5, 1, 2),
-                _ => value(2, 1, 2),
+                GAVE => value(numbers::BUFFER, 1, 2),
+                _ => value(numbers::LOCAL, 1, 2),
             };
             let stated = Fact::of(JgFact {
                 word,

@@ -3,9 +3,6 @@
 
 use std::ffi::c_void;
 
-/// The version of the header that this was written from.
-pub const JG_VERSION: u32 = 1;
-
 /// The most bytes of a line of a journal, with its line feed.
 pub const JG_LINE: usize = 65537;
 
@@ -141,7 +138,7 @@ extern "C" {
     ) -> i32;
     pub fn jg_did(
         core: *mut JgCore,
-        ticket: *const JgTicket,
+        ticket: *mut JgTicket,
         says: *const JgValue,
         given: *mut JgValue,
     ) -> i32;

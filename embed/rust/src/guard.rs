@@ -1,7 +1,8 @@
 //! The guard, which answers scripts.
 
-use crate::error::{answered, Error, NO_RULE};
+use crate::error::{answered, Error};
 use crate::ffi::{self, JgGuard};
+use crate::numbers;
 use crate::outcome::Entry;
 use crate::rule::Rule;
 use crate::text;
@@ -48,7 +49,7 @@ impl Guard {
                 setup.as_ptr(),
                 setup.len(),
                 limit,
-                ffi::JG_VERSION,
+                numbers::ABI,
                 &mut handle,
             )
         };
@@ -110,7 +111,7 @@ impl Guard {
             ffi::jg_guard_explain(&mut self.handle, bytes, room)
         });
         match told {
-            Err(Error::Unknown(NO_RULE)) => Ok(None),
+            Err(Error::Unknown(numbers::NO_RULE)) => Ok(None),
             other => other.map(Some),
         }
     }

@@ -1,6 +1,7 @@
 //! What keeps an object from being gone.
 
 use crate::ffi::JgHeld;
+use crate::numbers::{BY_BUFFER, BY_MONITOR, BY_NOTHING, BY_PENDING, BY_REFERENCE, BY_SETUP};
 use crate::value::{Buffer, Reference};
 use std::fmt;
 
@@ -27,12 +28,12 @@ impl Holder {
     pub(crate) fn of(held: JgHeld) -> Option<Holder> {
         let thread = u16::try_from(held.thread).ok();
         match held.by {
-            0 => Some(Holder::Nothing),
-            1 => Some(Holder::Setup),
-            2 => Reference::of(held.name).map(Holder::Reference),
-            3 => thread.map(Holder::Pending),
-            4 => Buffer::of(held.name).map(Holder::Buffer),
-            5 => thread.map(Holder::Monitor),
+            BY_NOTHING => Some(Holder::Nothing),
+            BY_SETUP => Some(Holder::Setup),
+            BY_REFERENCE => Reference::of(held.name).map(Holder::Reference),
+            BY_PENDING => thread.map(Holder::Pending),
+            BY_BUFFER => Buffer::of(held.name).map(Holder::Buffer),
+            BY_MONITOR => thread.map(Holder::Monitor),
             _ => None,
         }
     }
@@ -68,14 +69,20 @@ mod tests {
         let (maker, number) = (1, 2);
         let buffer = Buffer { maker, number };
         let cases = [
-            (held(0, 0, NONE), Some(Holder::Nothing)),
-            (held(1, 0, NONE), Some(Holder::Setup)),
-            (held(2, 0, local.value()), Some(Holder::Reference(local))),
-            (held(3, 7, NONE), Some(Holder::Pending(7))),
-            (held(4, 0, buffer.value()), Some(Holder::Buffer(buffer))),
-            (held(5, 7, NONE), Some(Holder::Monitor(7))),
+            (held(BY_NOTHING, 0, NONE), Some(Holder::Nothing)),
+            (held(BY_SETUP, 0, NONE), Some(Holder::Setup)),
+            (
+                held(BY_REFERENCE, 0, local.value()),
+                Some(Holder::Reference(local)),
+            ),
+            (held(BY_PENDING, 7, NONE), Some(Holder::Pending(7))),
+            (
+                held(BY_BUFFER, 0, buffer.value()),
+                Some(Holder::Buffer(buffer)),
+            ),
+            (held(BY_MONITOR, 7, NONE), Some(Holder::Monitor(7))),
             (held(6, 0, NONE), None),
-            (held(4, 0, NONE), None),
+            (held(BY_BUFFER, 0, NONE), None),
         ];
         for (held, holder) in cases {
             assert_eq!(Holder::of(held), holder);

@@ -42,6 +42,7 @@ mod ffi;
 mod functions;
 mod guard;
 mod held;
+mod numbers;
 mod outcome;
 mod rule;
 mod text;

@@ -3,6 +3,7 @@
 use crate::error::Error;
 use crate::ffi;
 use crate::functions;
+use crate::numbers;
 use crate::text;
 use std::fmt;
 
@@ -12,39 +13,39 @@ use std::fmt;
 #[non_exhaustive]
 pub enum Rule {
     /// The environment is another thread's, or the caller may not make the call.
-    WrongThread = 1,
+    WrongThread = numbers::WRONG_THREAD,
     /// An environment is needed and none is handed in, or it isn't the present session's.
-    Detached,
+    Detached = numbers::DETACHED,
     /// The caller is inside a critical region, and the function may not be called there.
-    InCritical,
+    InCritical = numbers::IN_CRITICAL,
     /// The caller has a pending exception, and the function may not be called then.
-    Pending,
+    Pending = numbers::PENDING,
     /// A local reference that another thread was handed.
-    ForeignLocal,
+    ForeignLocal = numbers::FOREIGN_LOCAL,
     /// A reference that was never made or has ended.
-    DeadReference,
+    DeadReference = numbers::DEAD_REFERENCE,
     /// The deletion of a reference of another kind.
-    WrongRefKind,
+    WrongRefKind = numbers::WRONG_REF_KIND,
     /// `NULL`, or a weak reference whose object was collected, where an object is wanted.
-    NullReference,
+    NullReference = numbers::NULL_REFERENCE,
     /// An object that isn't of the declared type.
-    WrongType,
+    WrongType = numbers::WRONG_TYPE,
     /// An ID that doesn't fit the object and the function.
-    BadField,
+    BadField = numbers::BAD_FIELD,
     /// A buffer that isn't open, or may not be used so.
-    BadBuffer,
+    BadBuffer = numbers::BAD_BUFFER,
     /// A number, a name or a list that the function doesn't take.
-    BadArgument,
+    BadArgument = numbers::BAD_ARGUMENT,
     /// The deletion of a reference through which an open critical buffer was made.
-    Pinned,
+    Pinned = numbers::PINNED,
     /// `MonitorExit` by a thread that doesn't own the monitor.
-    NotOwner,
+    NotOwner = numbers::NOT_OWNER,
     /// A pop without a push, a return outside a native method, a detachment inside one.
-    BadFrame,
+    BadFrame = numbers::BAD_FRAME,
     /// A use of native code that the setup refuses to the class's module.
-    NoNativeAccess,
+    NoNativeAccess = numbers::NO_NATIVE_ACCESS,
     /// `NativeEnter` of a method that isn't linked.
-    NotLinked,
+    NotLinked = numbers::NOT_LINKED,
 }
 
 impl Rule {

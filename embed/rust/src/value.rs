@@ -1,25 +1,11 @@
 //! Names, operands, and what a machine says of a call.
 
 use crate::ffi::JgValue;
+use crate::numbers::{
+    BUFFER, CLASS, ENVIRONMENT, GLOBAL, ID, ITEMS, LIST, LOCAL, NAME, NATIVE, NOTHING, NULL,
+    NUMBER, OBJECT, THREW, WEAK, WIDE,
+};
 use std::fmt;
-
-const NOTHING: u32 = 0;
-const NULL: u32 = 1;
-const LOCAL: u32 = 2;
-const GLOBAL: u32 = 3;
-const WEAK: u32 = 4;
-const BUFFER: u32 = 5;
-const ENVIRONMENT: u32 = 6;
-const OBJECT: u32 = 7;
-const NUMBER: u32 = 8;
-const WIDE: u32 = 9;
-const ID: u32 = 10;
-const CLASS: u32 = 11;
-const NATIVE: u32 = 12;
-const NAME: u32 = 13;
-const LIST: u32 = 14;
-const ITEMS: u32 = 15;
-const THREW: u32 = 16;
 
 pub(crate) const fn value(kind: u32, detail: u32, number: u64) -> JgValue {
     JgValue {

@@ -202,6 +202,50 @@ fn a_ticket_comes_back_where_nothing_is_told() -> Result<(), Error> {
 }
 
 #[test]
+fn a_call_is_told_once_and_to_its_core() -> Result<(), Error> {
+    let mut core = Core::open(SETUP, Bounds::NONE)?;
+    let mut other = Core::open(SETUP, Bounds::NONE)?;
+    let env = core.begins(1)?;
+    other.begins(1)?;
+    let Verdict::Passed(ticket) = core.ask(1, Some(env), Function::ExceptionCheck, &[])? else {
+        panic!("a check is denied");
+    };
+    let Err(untold) = other.did(ticket, Says::Done) else {
+        panic!("another core takes the ticket");
+    };
+    assert_eq!(untold.error, Error::BadTicket);
+    assert_eq!(core.did(untold.ticket, Says::Done)?, Given::Nothing);
+    let (ended, _) = core.ending(1, Some(env), Function::ExceptionClear, &[])?;
+    let Verdict::Passed(ticket) = ended else {
+        panic!("a pending exception can't be cleared");
+    };
+    assert_eq!(ticket.told(Says::Done)?, Some(Fact::Calmed { thread: 1 }));
+    let untold = core.did(ticket, Says::Done).err().map(Error::from);
+    assert_eq!(untold, Some(Error::BadTicket));
+    Ok(())
+}
+
+#[test]
+fn what_cant_be_thrown_is_thrown_by_no_machine() -> Result<(), Error> {
+    let mut core = Core::open(SETUP, Bounds::NONE)?;
+    let env = core.begins(1)?;
+    let Verdict::Passed(ticket) = core.ask(1, Some(env), Function::ExceptionCheck, &[])? else {
+        panic!("a check is denied");
+    };
+    let string = core.met(1, STRING, 2)?;
+    let Err(untold) = core.did(ticket, Says::Threw(string)) else {
+        panic!("a string is thrown");
+    };
+    assert_eq!(untold.error, Error::Impossible);
+    let throwable = core.class_of(ObjectKind::Throwable)?;
+    let thrown = core.met(1, throwable, 0)?;
+    assert_eq!(core.did(untold.ticket, Says::Threw(thrown))?, Given::Nothing);
+    let object = Some(thrown);
+    core.tell(Fact::IsPending { thread: 1, object })?;
+    Ok(())
+}
+
+#[test]
 fn threads_share_a_core_by_a_mutex() -> Result<(), Error> {
     let core = Mutex::new(Core::open(SETUP, Bounds::NONE)?);
     let object = lock(&core).met(0, STRING, 2)?;

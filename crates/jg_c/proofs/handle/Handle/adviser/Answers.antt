@@ -9,6 +9,7 @@ returns-in-Some c = let there = sym c.slot.ensures.value ∙ c.in-Some.ensures.v
   (refl, λ w old is. ap Some (c.own_adviser.follows.holds w old (ap adviser_of (sym there) ∙ is)), ap Some c.own_adviser.follows.holds-at-none ∙ sym there),
   record {
     writes_back = tt;
-    value = subst (λ (v : Option Session). MatchOption c.own_adviser.result (adviser_of v ≡ None) (λ a. adviser_of v ≡ Some a.now)) (sym there) c.own_adviser.ensures.value;
+    value = subst (λ (v : Option Session). MatchOption c.own_adviser.result (adviser_of v ≡ None) (λ a. adviser_of v ≡ Some a.now))
+        (sym there) c.own_adviser.ensures.value;
   },
 )

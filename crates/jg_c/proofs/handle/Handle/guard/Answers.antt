@@ -9,6 +9,7 @@ returns-in-Some c = let there = sym c.slot.ensures.value ∙ c.in-Some.ensures.v
   (refl, λ w old is. ap Some (c.own_guard.follows.holds w old (ap guard_of (sym there) ∙ is)), ap Some c.own_guard.follows.holds-at-none ∙ sym there),
   record {
     writes_back = tt;
-    value = subst (λ (v : Option Session). MatchOption c.own_guard.result (guard_of v ≡ None) (λ a. guard_of v ≡ Some a.now)) (sym there) c.own_guard.ensures.value;
+    value = subst (λ (v : Option Session). MatchOption c.own_guard.result (guard_of v ≡ None) (λ a. guard_of v ≡ Some a.now))
+        (sym there) c.own_guard.ensures.value;
   },
 )
