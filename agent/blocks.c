@@ -2,6 +2,7 @@
  * blocks.c: a block for each rule, function and place, and how often it came.
  */
 #include "blocks.h"
+#include "core.h"
 #include "forks.h"
 #include "options.h"
 #include "sites.h"
@@ -28,13 +29,11 @@ const char *blocks_function(uint32_t function) {
 
 void blocks_name(const struct block *block, char *name, size_t room) {
     uint8_t bytes[64];
-    int64_t length = block->rule     ? jg_rule_name(block->rule, bytes, sizeof bytes)
-                     : block->advice ? jg_advice_name(block->advice, bytes, sizeof bytes)
-                                     : 0;
-    if (block->rule != 0 || block->advice != 0) {
+    if (block->advice != 0) {
+        int64_t length = jg_advice_name(block->advice, bytes, sizeof bytes);
         snprintf(name, room, "%.*s", (int)(length < 0 ? 0 : length), (const char *)bytes);
     } else {
-        snprintf(name, room, "%s", block->notice);
+        snprintf(name, room, "%s", block->rule ? jg_rule_string(block->rule) : block->notice);
     }
 }
 
@@ -46,12 +45,13 @@ void blocks_call(const struct block *block, char *text, size_t room) {
 
 void blocks_head(const struct block *block, char *text, size_t room) {
     char name[64], call[600];
-    blocks_name(block, name, sizeof name);
     blocks_call(block, call, sizeof call);
     if (block->rule != 0) {
-        snprintf(text, room, "deny %u %s: %s", (unsigned)block->rule, name, call);
+        core_answer_text(block->rule, name, sizeof name);
+        snprintf(text, room, "%s: %s", name, call);
     } else {
-        snprintf(text, room, "%s %s: %s", block->advice ? "advice" : "notice", name, call);
+        blocks_name(block, name, sizeof name);
+        snprintf(text, room, "%s %s: %s", blocks_kind(block), name, call);
     }
 }
 

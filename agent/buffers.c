@@ -9,7 +9,7 @@
 #include "buffers.h"
 #include "core.h"
 #include "forks.h"
-#include "kept.h"
+#include "caller_state.h"
 #include "names.h"
 #include "objects.h"
 #include "quarantine.h"
@@ -552,7 +552,7 @@ static struct lent *lend_copy(struct call *call, void *memory, uint32_t count, c
 /* Whether the memory can be that of the object's items, as far as the object says. */
 static int is_fitting(const struct call *call, char shape) {
     const struct object *object = call->first.object;
-    if (call->verdict.rule == 0) {
+    if (call->verdict.rule == JG_PASSED) {
         return 1;
     }
     return object->class != NULL &&
@@ -737,7 +737,7 @@ static int give_judged(struct given_back *given) {
         given->lent = NULL;
         return 0;
     }
-    if (call->is_asked && call->verdict.rule != 0) {
+    if (call->is_asked && call->verdict.rule != JG_PASSED) {
         return give_denied(given);
     }
     if (lent == NULL) {

@@ -6,7 +6,7 @@
  */
 #include "calls.h"
 #include "core.h"
-#include "kept.h"
+#include "caller_state.h"
 #include "names.h"
 #include "objects.h"
 #include "options.h"
@@ -21,27 +21,19 @@ static jg_value never_made(const struct call *call) {
 
 /* ---- beginning ---- */
 
+/* What a call begins with, up to its verdict's ticket: 0, nothing and NULL, also where a name is NULL by its kind. */
+static const struct call FRESH = {.first.name.kind = JG_NULL, .last.name.kind = JG_NULL};
+enum { FRESH_BYTES = offsetof(struct call, verdict.ticket) };
+
+/* Compilers copy as many bytes by plain stores. More take a loop, at each call. */
+_Static_assert(FRESH_BYTES <= 256, "a call begins with few fields");
+
 void call_opens(struct call *call, uint32_t function, struct thread *thread, const struct site *site) {
-    memset(call, 0, offsetof(struct call, operands));
+    memcpy(call, &FRESH, FRESH_BYTES);
     call->thread = thread;
     call->site = site;
     call->function = function;
     call->row = &rows[function];
-    call->env_name = jg_nothing();
-    call->more = NULL;
-    call->first = call->last = (struct reference){NULL, jg_null(), NULL};
-    call->known.handle = 0;
-    call->made_count = 0;
-    call->texts[0] = call->texts[1] = NULL;
-    call->text_count = 0;
-    call->is_lost = 0;
-    call->lent = NULL;
-    call->verdict.rule = 0;
-    call->kept = jg_nothing();
-    call->unseen = NULL;
-    call->reason = call->notice = call->notice_text = NULL;
-    call->method = NULL;
-    call->frame = 0;
 }
 
 /* The call is judged, by a thread that is caught up with. */
@@ -308,6 +300,7 @@ struct reference call_resolve(struct call *call, jobject handle, int wants_objec
         return it;
     }
     int is_known = names_find(address_of(handle), known);
+    call->has_known = (uint8_t)is_known;
     if (is_known && known->state == NAME_HELD) {
         it.name = known->name;
     } else if (is_known && known->state == NAME_LIVE && (known->is_believed || !call->is_own_env)) {
@@ -315,7 +308,7 @@ struct reference call_resolve(struct call *call, jobject handle, int wants_objec
         it.object = is_foreign(call, known) ? NULL : known->object;
     } else if (call->is_own_env) {
         ask_machine(call, &it, is_known ? known : NULL);
-        known->handle = 0;
+        call->has_known = 0;
     } else {
         it.name = is_known && known->state != NAME_SEEN ? known->name : never_made(call);
     }
@@ -573,7 +566,7 @@ static int ask(struct call *call, struct memo *memo) {
     uint64_t facts = core_facts;
     core_unlock();
     call->thread->asking = NULL;
-    if (memo != NULL && error == 0 && call->verdict.rule == 0) {
+    if (memo != NULL && error == 0 && call->verdict.rule == JG_PASSED) {
         remember(call, memo, facts);
     }
     return error == 0;
@@ -585,7 +578,7 @@ static int passes(struct call *call, struct memo *memo) {
         return 1;
     }
     call->is_asked = 1;
-    if (call->verdict.rule != 0) {
+    if (call->verdict.rule != JG_PASSED) {
         core_count(&counts.denied);
         report_denial(call);
         if (options.is_strict) {
@@ -607,7 +600,8 @@ static int passes(struct call *call, struct memo *memo) {
 int call_passes(struct call *call) {
     struct memo *memo = call->is_lost || call->notice != NULL ? NULL : memo_of(call);
     if (memo != NULL && is_repeated(call, memo)) {
-        call->verdict.rule = call->verdict.operand = 0;
+        call->verdict.rule = JG_PASSED;
+        call->verdict.operand = 0;
         call->verdict.ticket = memo->ticket;
         call->thread->repeated++;
         call->is_asked = 1;
@@ -703,7 +697,7 @@ static void note_pending(struct call *call, jg_value says, const struct object *
 /* Whether an answer is to be told: no fact comes of most calls that can't have thrown. */
 static int is_telling(const struct call *call, jg_value says) {
     return call->is_asked &&
-           (call->verdict.rule != 0 || call->row->effect != EFFECT_NOTHING || !says_done(call, says));
+           (call->verdict.rule != JG_PASSED || call->row->effect != EFFECT_NOTHING || !says_done(call, says));
 }
 
 static void tell_answer(struct call *call, jg_value says, struct object *object, jg_value *given) {
@@ -712,7 +706,7 @@ static void tell_answer(struct call *call, jg_value says, struct object *object,
         says = jg_threw(jg_object(thrown->number));
         object = thrown;
     }
-    if (call->verdict.rule != 0) {
+    if (call->verdict.rule != JG_PASSED) {
         tell_denied(call, says, object, given);
     } else if (!call->is_ending && (call->row->effect != EFFECT_NOTHING || thrown != NULL)) {
         core_lock();
@@ -734,7 +728,7 @@ void call_says(struct call *call, jg_value says, struct object *object, jg_value
 
 void call_checks_length(struct call *call, jsize length) {
     const struct object *object = call->first.object;
-    if (!call->is_asked || call->verdict.rule != 0 || object == NULL || object->number < objects_of_setup()) {
+    if (!call->is_asked || call->verdict.rule != JG_PASSED || object == NULL || object->number < objects_of_setup()) {
         return;
     }
     if ((uint32_t)length != object->length || core_is_recorded()) {
@@ -788,7 +782,7 @@ static int is_reference(struct call *call, jobject result) {
     if (result == NULL || call->is_misread || !call->is_own_env) {
         return 0;
     }
-    if (call->verdict.rule != 0) {
+    if (call->verdict.rule != JG_PASSED) {
         return call->unseen == NULL && !is_misread_item(call) && call_kind(call, result) != JNIInvalidRefType;
     }
     if (call->unseen != NULL) {
@@ -802,7 +796,7 @@ static int is_reference(struct call *call, jobject result) {
 
 /* Whether the result names the operand's object, which needn't be asked then. */
 static int is_copy(const struct call *call) {
-    return call->verdict.rule == 0 && call->first.object != NULL && !call->first.object->is_gone &&
+    return call->verdict.rule == JG_PASSED && call->first.object != NULL && !call->first.object->is_gone &&
            (call->function == JG_FN_NewLocalRef || call->function == JG_FN_NewGlobalRef ||
             call->function == JG_FN_NewWeakGlobalRef);
 }

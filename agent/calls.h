@@ -44,41 +44,43 @@ struct reference {
     struct object *object; /* or NULL */
 };
 
+/* What stands before the verdict's ticket has a value when the call begins (call_opens). The rest has none. */
 struct call {
     struct thread *thread;
     JNIEnv *env;
     const struct row *row;
     const struct site *site;
     uint32_t function;
-    int is_own_env;  /* the environment is the thread's, so the machine can be asked by it */
-    int is_asked;    /* the core was asked; else it is passed on */
-    int is_ending;   /* what it ends is told when it is asked */
-    int was_pending; /* an exception was when it began */
-    int has_first;   /* an operand was a reference */
-    int is_misread;  /* the function answers a reference, and the member of the ID is none or returns none */
+    uint8_t is_own_env;  /* the environment is the thread's, so the machine can be asked by it */
+    uint8_t is_asked;    /* the core was asked; else it is passed on */
+    uint8_t is_ending;   /* what it ends is told when it is asked */
+    uint8_t was_pending; /* an exception was when it began */
+    uint8_t has_first;   /* an operand was a reference */
+    uint8_t has_known;   /* there is a name in `known` */
+    uint8_t is_misread;  /* the function answers a reference, and the member of the ID is none or returns none */
+    uint8_t is_lost;     /* an operand couldn't be named, by fault of the agent */
     jg_value env_name;
-    size_t count;
-    jg_value operands[FEW_OPERANDS];
-    jobject handles[FEW_OPERANDS]; /* of those that are references; else NULL */
-    struct operands *more;         /* all of both, where there are more than a few */
     struct reference first;        /* the first operand that is a reference */
     struct reference last;         /* the last one but for arguments, which an ID is of */
-    struct name known; /* what was known of the newest reference that was looked up; no handle where nothing was */
-    jobject made[4];   /* locals that were made of weak references for this call */
-    size_t made_count;
-    int is_lost;                   /* an operand couldn't be named, by fault of the agent */
-    struct lent *lent;             /* the buffer that is released, or NULL */
+    size_t count;                  /* of operands */
+    size_t made_count;             /* of `made` */
+    size_t text_count;             /* of `texts` */
+    struct operands *more;         /* all operands, where there are more than a few */
     const char *texts[MOST_NAMES]; /* the texts of operands that are names, as far as they are known */
-    size_t text_count;
-    jg_verdict verdict;
-    jg_value given;     /* what jg_ending handed out */
-    jg_value kept;      /* what PopLocalFrame and NativeLeave keep */
-    jmethodID unseen;   /* a method whose ID nobody saw being handed out, or NULL */
-    const char *reason; /* of an ID that doesn't fit: why, or NULL */
-    const char *notice; /* what breaks no rule and is told all the same: its name and a sentence, or NULL */
+    struct lent *lent;             /* the buffer that is released, or NULL */
+    jg_value kept;                 /* what PopLocalFrame and NativeLeave keep */
+    jmethodID unseen;              /* a method whose ID nobody saw being handed out, or NULL */
+    const char *reason;            /* of an ID that doesn't fit: why, or NULL */
+    const char *notice;            /* what breaks no rule and is told all the same: its name and a sentence, or NULL */
     const char *notice_text;
-    jmethodID method; /* the method, where the function is of another result type; else NULL */
-    uintptr_t frame;  /* of the wrapper, by which the native stack is found; 0: it isn't */
+    jmethodID method;   /* the method, where the function is of another result type; else NULL */
+    uintptr_t frame;    /* of the wrapper, by which the native stack is found; 0: it isn't */
+    jg_verdict verdict; /* its ticket where the core was asked */
+    jg_value given;     /* what jg_ending handed out */
+    jg_value operands[FEW_OPERANDS];
+    jobject handles[FEW_OPERANDS]; /* of those that are references; else NULL */
+    jobject made[4];               /* locals that were made of weak references for this call */
+    struct name known;             /* what was known of the newest reference that was looked up */
 };
 
 /* Whether the call is judged. If not, the caller makes it and nothing more. */

@@ -55,16 +55,22 @@ static void put_text(const char *text) {
     put(text, strlen(text));
 }
 
-static void put_name(jg_value name) {
-    static const char LETTERS[] = "..LGWBEO";
-    char text[64];
+void core_name_text(jg_value name, char *text, size_t room) {
+    static const char LETTERS[] = {[JG_LOCAL] = 'L', [JG_GLOBAL] = 'G', [JG_WEAK] = 'W', [JG_BUFFER] = 'B',
+                                   [JG_ENVIRONMENT] = 'E'};
     if (name.kind == JG_OBJECT) {
-        snprintf(text, sizeof text, "O%llu", (unsigned long long)name.number);
+        snprintf(text, room, "O%llu", (unsigned long long)name.number);
     } else {
-        snprintf(text, sizeof text, "%c%u.%llu", LETTERS[name.kind], (unsigned)name.detail,
-                 (unsigned long long)name.number);
+        snprintf(text, room, "%c%u.%llu", LETTERS[name.kind], (unsigned)name.detail, (unsigned long long)name.number);
     }
-    put_text(text);
+}
+
+void core_answer_text(uint32_t rule, char *text, size_t room) {
+    if (rule == JG_PASSED) {
+        snprintf(text, room, "passed");
+    } else {
+        snprintf(text, room, "deny %u %s", (unsigned)rule, jg_rule_string(rule));
+    }
 }
 
 /* Writes what the library made of numbers: the text of a line, without its answer. */
@@ -130,20 +136,15 @@ static void put_question(const char *made, size_t size, const char *const *names
 static void record_question(const struct question *it, const jg_verdict *verdict) {
     uint8_t *line = line_of_library();
     char text[512];
-    uint8_t name[64];
     int64_t size = jg_question_line(&core, it->thread, it->env, it->function, it->operands, it->count, line, JG_LINE);
     if (size < 0) {
         put_line(line, size);
     } else {
         put_question((const char *)line, (size_t)size, it->names);
     }
-    if (verdict->rule == 0) {
-        put_text(" = passed");
-    } else {
-        int64_t length = jg_rule_name(verdict->rule, name, sizeof name);
-        snprintf(text, sizeof text, " = deny %u %.*s", (unsigned)verdict->rule, (int)length, (const char *)name);
-        put_text(text);
-    }
+    core_answer_text(verdict->rule, text, sizeof text);
+    put_text(" = ");
+    put_text(text);
     if (it->site != NULL) {
         snprintf(text, sizeof text, "+0x%lx", (unsigned long)it->site->offset);
         put_text(" @ ");
@@ -155,10 +156,12 @@ static void record_question(const struct question *it, const jg_verdict *verdict
 
 static void record_fact(const jg_fact *fact, const jg_value *given) {
     uint8_t *line = line_of_library();
+    char name[64];
     put_line(line, jg_fact_line(&core, fact, line, JG_LINE));
     if (given->kind != JG_NOTHING) {
+        core_name_text(*given, name, sizeof name);
         put_text(" = ");
-        put_name(*given);
+        put_text(name);
     }
     put_text("\n");
 }
@@ -253,10 +256,7 @@ int core_open(void) {
     int32_t error = jg_core_open(jg_bytes(text ? text : NO_SETUP), size, &bounds, JG_VERSION, &core);
     free(text);
     if (error != 0) {
-        uint8_t name[64];
-        int64_t length = jg_error_name(error, name, sizeof name);
-        fprintf(stderr, "jg: %s: %.*s\n", options.setup ? options.setup : "the core", (int)(length < 0 ? 0 : length),
-                (const char *)name);
+        fprintf(stderr, "jg: %s: %s\n", options.setup ? options.setup : "the core", jg_error_string(error));
         return -1;
     }
     if (options.advice && jg_adviser_open((uint64_t)options.region, &adviser) != 0) {
@@ -332,7 +332,7 @@ static void note_ended(const jg_verdict *verdict, const jg_value *given, const j
 static int32_t ask(const struct question *it, jg_verdict *verdict, jg_value *given) {
     if (given == NULL || is_advising) {
         int32_t error = jg_ask(&core, it->thread, it->env, it->function, it->operands, it->count, verdict);
-        if (error < 0 || verdict->rule != 0) {
+        if (error < 0 || verdict->rule != JG_PASSED) {
             return error;
         }
         if (is_advising) {
@@ -359,7 +359,7 @@ int32_t core_ask(const struct question *it, jg_verdict *verdict, jg_value *given
     if (record >= 0) {
         record_question(it, verdict);
     }
-    if (given != NULL && verdict->rule == 0 && core_needs_all()) {
+    if (given != NULL && verdict->rule == JG_PASSED && core_needs_all()) {
         note_ended(verdict, given, kept);
     }
     return 0;
@@ -432,7 +432,7 @@ int32_t core_tell_of(jg_fact fact, struct object *object, jg_value *given) {
     return tell_once(&fact, given);
 }
 
-int32_t core_did(const jg_ticket *ticket, jg_value says, struct object *object, jg_value *given) {
+int32_t core_did(jg_ticket *ticket, jg_value says, struct object *object, jg_value *given) {
     jg_fact fact;
     *given = jg_nothing();
     int32_t error = jg_did(&core, ticket, &says, given);

@@ -56,7 +56,7 @@ int32_t core_ask(const struct question *question, jg_verdict *verdict, jg_value 
  * Tells what came of a passed call. 0, or an error, which was counted. `object` is the one that the fact is of, so that
  * it can be met anew, or NULL.
  */
-int32_t core_did(const jg_ticket *ticket, jg_value says, struct object *object, jg_value *given);
+int32_t core_did(jg_ticket *ticket, jg_value says, struct object *object, jg_value *given);
 
 /* Tells a fact. Where it can't be it is mended, told again, and counted. 0, or an error. `given` may be NULL. */
 int32_t core_tell(jg_fact fact, jg_value *given);
@@ -66,6 +66,10 @@ int32_t core_tell_of(jg_fact fact, struct object *object, jg_value *given);
 
 /* Tells that these objects are gone. 0, or JG_IMPOSSIBLE and the place of the first that is held. */
 int32_t core_gone(const uint64_t *objects, size_t count, uint64_t *held);
+
+/* As a record has them: a name, such as `L1.2` or `O15`; and an answer, `passed` or `deny 6 DeadReference`. */
+void core_name_text(jg_value name, char *text, size_t room);
+void core_answer_text(uint32_t rule, char *text, size_t room);
 
 /* Counts one more. It needs no lock. */
 void core_count(uint64_t *count);

@@ -8,7 +8,7 @@
  */
 #include "ids.h"
 #include "forks.h"
-#include "kept.h"
+#include "caller_state.h"
 #include "objects.h"
 #include "spin.h"
 

@@ -6,7 +6,7 @@
  */
 #include "calls.h"
 #include "core.h"
-#include "kept.h"
+#include "caller_state.h"
 
 #include <string.h>
 
@@ -35,7 +35,7 @@ static void tell_attached(struct call *call, JNIEnv *env) {
     if (call->thread->is_attached || !call->is_asked) {
         return;
     }
-    if (call->verdict.rule != 0) {
+    if (call->verdict.rule != JG_PASSED) {
         threads_catch_up(call->thread, env, 0);
         return;
     }

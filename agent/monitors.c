@@ -8,7 +8,7 @@
 #include "calls.h"
 #include "core.h"
 #include "forks.h"
-#include "kept.h"
+#include "caller_state.h"
 #include "objects.h"
 #include "spin.h"
 
@@ -221,7 +221,7 @@ jint JNICALL wrapped_MonitorExit(JNIEnv *env, jobject handle) {
     if (!call_passes(&call)) {
         return JNI_ERR;
     }
-    if (call.is_asked && call.verdict.rule == 0) {
+    if (call.is_asked && call.verdict.rule == JG_PASSED) {
         note_exited(call.first.object);
     }
     jint answer = machine->MonitorExit(env, handle);

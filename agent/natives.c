@@ -9,7 +9,7 @@
 #include "calls.h"
 #include "core.h"
 #include "forks.h"
-#include "kept.h"
+#include "caller_state.h"
 #include "names.h"
 #include "objects.h"
 #include "options.h"
@@ -555,7 +555,7 @@ static void leave_judged(struct thread *thread, const struct native *native, uin
     int32_t error = core_ask(&question, &call.verdict, NULL, NULL);
     tell_left(thread);
     core_unlock();
-    if (error == 0 && call.verdict.rule != 0) {
+    if (error == 0 && call.verdict.rule != JG_PASSED) {
         core_count(&counts.denied);
         report_denial(&call);
         *result = options.is_strict ? 0 : *result;
@@ -617,7 +617,7 @@ static jint ask_methods(struct call *call, jclass class, const JNINativeMethod *
         if (!call_passes(call)) {
             return -1;
         }
-        if (!call->is_asked || call->verdict.rule != 0) {
+        if (!call->is_asked || call->verdict.rule != JG_PASSED) {
             return asked;
         }
         tickets[asked] = call->verdict.ticket;
@@ -629,7 +629,7 @@ static void tell_registered(struct call *call, const jg_ticket *tickets, jint co
     jg_value given;
     for (jint at = 0; at < count; at++) {
         call->verdict.ticket = tickets[at];
-        call->verdict.rule = 0;
+        call->verdict.rule = JG_PASSED;
         call_says(call, jg_nothing(), NULL, &given);
     }
 }

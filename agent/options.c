@@ -11,14 +11,13 @@
 #include <unistd.h>
 
 struct options options = {.exit_code = -1, .most = -1, .quarantine = 256, .region = 1000};
-_Atomic int64_t quarantine_bytes;
 
 /*
  * A CHOICE may stand alone, or with the one value that it has. A STATUS is a number that a program may end with. A FILE
  * is one that is written, with %p for the process in its name.
  */
 enum kind { FLAG, CHOICE, NUMBER, STATUS, TEXT, RULES, FILE_NAME };
-enum { MOST_STATUS = 255, LAST_RULE = 17 };
+enum { MOST_STATUS = 255 };
 
 /* Each option: its word, what stands behind `=`, and what it does. */
 static const struct option {
@@ -82,13 +81,12 @@ static int refuse(const char *word, const char *why) {
 /* ---- values ---- */
 
 uint32_t options_rule(const char *word, size_t size) {
-    for (uint32_t rule = 1; rule <= LAST_RULE; rule++) {
-        uint8_t name[64];
-        char number[8];
-        int64_t length = jg_rule_name(rule, name, sizeof name);
-        int digits = snprintf(number, sizeof number, "%u", (unsigned)rule);
-        if ((length == (int64_t)size && memcmp(name, word, size) == 0) ||
-            ((size_t)digits == size && memcmp(number, word, size) == 0)) {
+    for (uint32_t rule = JG_PASSED + 1; *jg_rule_string(rule) != 0; rule++) {
+        const char *name = jg_rule_string(rule);
+        char number[12];
+        snprintf(number, sizeof number, "%u", (unsigned)rule);
+        if ((strlen(name) == size && memcmp(name, word, size) == 0) ||
+            (strlen(number) == size && memcmp(number, word, size) == 0)) {
             return rule;
         }
     }

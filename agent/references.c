@@ -1,30 +1,12 @@
 /*
- * references.c: the wrappers of functions that end references, frames and exceptions, and what is held back of them.
- *
- * A reference that judged code deletes isn't deleted in the machine at once: so its slot isn't used again, and a later
- * use of the dead reference is seen.
+ * references.c: the wrappers of functions that end references, frames and exceptions.
  */
 #include "calls.h"
 #include "core.h"
-#include "forks.h"
-#include "kept.h"
+#include "caller_state.h"
 #include "names.h"
 #include "objects.h"
 #include "quarantine.h"
-
-#include <pthread.h>
-
-/* A global or weak reference that was held back. */
-struct held_global {
-    uintptr_t handle;
-    uint64_t number;
-    uint32_t bytes;
-    uint32_t kind;
-};
-
-static pthread_mutex_t lock = PTHREAD_MUTEX_INITIALIZER;
-static struct held_global *held; /* a ring */
-static size_t held_first, held_count;
 
 static uint32_t bytes_of(const struct object *object) {
     if (object == NULL || object->class == NULL) {
@@ -32,54 +14,6 @@ static uint32_t bytes_of(const struct object *object) {
     }
     uint64_t bytes = (uint64_t)object->length * objects_item_size(object->class->shape);
     return bytes > UINT32_MAX ? UINT32_MAX : (uint32_t)bytes;
-}
-
-static void delete_in_machine(JNIEnv *env, uint32_t kind, jobject handle) {
-    if (kind == JG_LOCAL) {
-        machine->DeleteLocalRef(env, handle);
-    } else if (kind == JG_GLOBAL) {
-        machine->DeleteGlobalRef(env, handle);
-    } else {
-        machine->DeleteWeakGlobalRef(env, handle);
-    }
-}
-
-/* Takes the one that was held back longest out of the ring, where that is too full for so many bytes more. */
-static int take_oldest(uint32_t bytes, struct held_global *oldest) {
-    pthread_mutex_lock(&lock);
-    int is_full = held_count == (size_t)options.quarantine || (held_count > 0 && quarantine_is_full(bytes));
-    if (is_full) {
-        *oldest = held[held_first];
-        held_first = (held_first + 1) % (size_t)options.quarantine;
-        held_count--;
-        quarantine_bytes -= oldest->bytes;
-    }
-    pthread_mutex_unlock(&lock);
-    return is_full;
-}
-
-/* Holds the reference back. Whether it did. */
-static int hold_global(JNIEnv *env, const struct held_global *global) {
-    struct held_global oldest;
-    if (!quarantine_takes(global->bytes)) {
-        return 0;
-    }
-    while (take_oldest(global->bytes, &oldest)) {
-        if (names_let_go(oldest.handle, oldest.number)) {
-            delete_in_machine(env, oldest.kind, (jobject)oldest.handle);
-        }
-    }
-    pthread_mutex_lock(&lock);
-    if (held == NULL) {
-        held = must_make((size_t)options.quarantine * sizeof *held);
-    }
-    int has_room = held_count < (size_t)options.quarantine;
-    if (has_room) {
-        held[(held_first + held_count++) % (size_t)options.quarantine] = *global;
-        quarantine_bytes += global->bytes;
-    }
-    pthread_mutex_unlock(&lock);
-    return has_room;
 }
 
 /* ---- deletions ---- */
@@ -107,12 +41,11 @@ static void end_reference(struct call *call, const struct name *known, uint32_t 
     if (!names_end(known->handle, number, NAME_HELD, (uint16_t)call->function, call->site)) {
         return;
     }
-    struct held_local local = {known->handle, number, known->frame, bytes};
-    struct held_global global = {known->handle, number, bytes, kind};
     int is_held = 0;
     if (kind != JG_LOCAL) {
-        is_held = hold_global(call->env, &global);
+        is_held = quarantine_holds(call->env, kind, known, bytes);
     } else if (call->is_own_env && !call->site->library->is_tool) {
+        struct held_local local = {known->handle, number, known->frame, bytes};
         is_held = threads_hold_local(call->thread, call->env, &local);
     }
     if (!is_held && names_let_go(known->handle, number)) {
@@ -138,7 +71,8 @@ static void delete_denied(struct call *call, uint32_t kind, jobject handle) {
 
 /* The name of the operand that is deleted. Whether it has one. */
 static int name_deleted(struct call *call, jobject handle) {
-    return call->known.handle == address_of(handle) || names_find(address_of(handle), &call->known);
+    int has_name = call->has_known && call->known.handle == address_of(handle);
+    return has_name || names_find(address_of(handle), &call->known);
 }
 
 static void deletes(JNIEnv *env, uint32_t function, jobject handle, uintptr_t at, uintptr_t frame) {
@@ -155,7 +89,7 @@ static void deletes(JNIEnv *env, uint32_t function, jobject handle, uintptr_t at
     }
     if (!call.is_asked || handle == NULL) {
         delete_in_machine(env, kind, handle);
-    } else if (call.verdict.rule != 0) {
+    } else if (call.verdict.rule != JG_PASSED) {
         delete_denied(&call, kind, handle);
     } else if (name_deleted(&call, handle)) {
         end_reference(&call, &call.known, kind);
@@ -214,7 +148,7 @@ static void push_unjudged(struct thread *thread) {
         thread->pushed++;
     } else {
         core_lock();
-        core_tell(jg_fact_of(JG_PUSHED, thread->number, jg_nothing(), jg_null(), 16, 0), NULL);
+        core_tell(jg_fact_of(JG_PUSHED, thread->number, jg_nothing(), jg_null(), ROOM_OF_A_FRAME, 0), NULL);
         core_unlock();
         threads_push(thread);
     }
@@ -227,7 +161,7 @@ static void tell_pushed(struct call *call) {
     keep(&kept);
     if (call == NULL) {
         push_unjudged(threads_self());
-    } else if (call->is_asked && call->verdict.rule == 0) {
+    } else if (call->is_asked && call->verdict.rule == JG_PASSED) {
         call_says(call, jg_nothing(), NULL, &given);
         threads_push(call->thread);
     } else if (call->is_asked && call->is_own_env) {
@@ -290,7 +224,7 @@ static void pop(struct call *call) {
 
 /* The machine popped it, and what it answers has the name that the core gave. */
 static void popped(struct call *call, jobject kept) {
-    if (kept != NULL && call->is_asked && call->verdict.rule == 0 && call->given.kind == JG_LOCAL) {
+    if (kept != NULL && call->is_asked && call->verdict.rule == JG_PASSED && call->given.kind == JG_LOCAL) {
         call_names(call, kept, call->given, call->first.object);
     }
     call_drops(call);
@@ -339,14 +273,10 @@ void JNICALL wrapped_ExceptionClear(JNIEnv *env) {
         if (!call_passes(&call)) {
             return;
         }
-        if (call.is_asked && call.verdict.rule == 0) {
+        if (call.is_asked && call.verdict.rule == JG_PASSED) {
             call.thread->is_pending = 0;
         }
         call_drops(&call);
     }
     machine->ExceptionClear(env);
-}
-
-__attribute__((constructor)) static void hold_at_fork(void) {
-    FORKS_HOLD(FORKS_MUTEX, &lock);
 }

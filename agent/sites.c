@@ -9,7 +9,7 @@
 #include "sites.h"
 #include "buffers.h"
 #include "forks.h"
-#include "kept.h"
+#include "caller_state.h"
 #include "monitors.h"
 #include "names.h"
 #include "natives.h"

@@ -20,7 +20,7 @@
 #include <stdlib.h>
 #include <string.h>
 
-enum { MOST_THREADS = 65535, ROOM_OF_A_FRAME = 16, ROOM_BESIDE_HELD = 1024 };
+enum { MOST_THREADS = 65535, ROOM_BESIDE_HELD = 1024 };
 
 static pthread_mutex_t lock = PTHREAD_MUTEX_INITIALIZER;
 static struct thread *threads;

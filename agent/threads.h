@@ -12,6 +12,9 @@ struct call;
 
 enum { RECENT_SITES = 64 };
 
+/* The room that is told of a frame whose own isn't known. */
+enum { ROOM_OF_A_FRAME = 16 };
+
 struct recent_site {
     uintptr_t at;
     const struct site *site;

@@ -124,7 +124,6 @@ static char *text_of(int64_t (*say)(uint32_t, uint8_t *, size_t), uint32_t numbe
 /* ---- operands ---- */
 
 static void name_text(jg_value name, char *text, size_t room) {
-    static const char LETTERS[] = "..LGWB";
     if (name.kind == JG_NULL) {
         snprintf(text, room, "NULL");
     } else if (name.kind < JG_LOCAL || name.kind > JG_BUFFER) {
@@ -132,7 +131,7 @@ static void name_text(jg_value name, char *text, size_t room) {
     } else if (name.number == UINT64_MAX) {
         snprintf(text, room, "a handle that this thread wasn't given");
     } else {
-        snprintf(text, room, "%c%u.%llu", LETTERS[name.kind], (unsigned)name.detail, (unsigned long long)name.number);
+        core_name_text(name, text, room);
     }
 }
 
