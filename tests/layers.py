@@ -8,8 +8,10 @@ CRATE = r"`jg_\w+`(?! (?:stands )?on\b)"
 SENTENCE = re.compile(rf"`(jg_\w+)` (?:stands )?on ({CRATE}(?:(?:,| and|, and)?(?: on)? {CRATE})*)")
 # "`judge_one`, `judge_two` in `judge/references.rt`", of which files are named from these folders.
 NAMED = re.compile(r"((?:`\w+`(?:, | and ))*`\w+`) (?:of `\w+` )?in `([\w/]+\.rt)`")
-FOLDERS = ("", "crates/", "crates/jg_rules/src/", "crates/jg_rules/src/judge/")
-TABLES = "jg_table_threads jg_table_locals jg_table_globals jg_table_monitors jg_table_buffers jg_table_heap jg_policy".split()
+FOLDERS = ("", "crates/", "crates/jg_rules/src/", "crates/jg_judge/src/")
+# "- **Tables**: `jg_a`, `jg_b`. .." in the list of floors.
+FLOOR = re.compile(r"^- \*\*([^*`]+)\*\*: ((?:`jg_\w+`[,.]\s+)+)", re.M)
+BULLET = re.compile(r"^- \*\*`(jg_\w+)`\*\*", re.M)
 
 
 def crates_in(text):
@@ -18,25 +20,20 @@ def crates_in(text):
     return {name.split()[0]: rest.split() for name, _, rest in lines}
 
 
-def rows_in(document):
-    """Yields crate and text of each row of the tables that say on which other crates one stands."""
-    for table in re.findall(r"^\| [^|]+ \| Stands, beside others, on \|\n\|.*\n((?:\|.*\n)+)", document, re.M):
-        for row in table.splitlines():
-            cells = row.strip("|").split("|")
-            yield re.search(r"jg_\w+", cells[0])[0], cells[1].replace("the seven tables", " ".join(TABLES))
-
-
 def wrong_layers(document, text):
     """Yields each thing that ARCHITECTURE.md says of crates and crates.txt doesn't."""
     crates = crates_in(text)
-    bullets = re.findall(r"^- \*\*`(jg_\w+)`\*\*", document, re.M)
+    bullets = BULLET.findall(document)
     yield from (f"'The crates' has nothing of {it}" for it in crates if it not in bullets)
     yield from (f"'The crates' has {it}, which crates.txt hasn't" for it in bullets if it not in crates)
+    for floor, on_it in FLOOR.findall(document):
+        section = re.search(rf"^### {re.escape(floor)}$(.*?)(?=^##)", document, re.M | re.S)
+        if not section or sorted(BULLET.findall(section[1])) != sorted(re.findall(r"jg_\w+", on_it)):
+            yield f"'The crates' has other crates under '{floor}' than the list of floors"
     for name, told in re.findall(r"^- \*\*`(\w+)` is (?:called|listed)(.*?)(?=^- |\Z)", document, re.M | re.S):
-        users = [it for it in crates if name in crates[it] and not it.endswith("_trials")]
+        users = [it for it in crates if name in crates[it] and not it.startswith("jg_test_")]
         yield from (f"{it} lists {name}, which isn't said" for it in users if f"`{it}`" not in told)
-    flat = " ".join(document.split())
-    for crate, told in [*rows_in(document), *SENTENCE.findall(flat)]:
+    for crate, told in SENTENCE.findall(" ".join(document.split())):
         lacking = [it for it in re.findall(r"jg_\w+", told) if it not in crates.get(crate, [])]
         yield from (f"{crate} stands on {it}, where crates.txt doesn't list it" for it in lacking)
 
@@ -51,7 +48,7 @@ def lost_functions(top, document):
     """Yields each function or type that ARCHITECTURE.md names in a file which doesn't define it."""
     for names, file in NAMED.findall(document):
         texts = [code_of(path) for it in FOLDERS for path in glob.glob(f"{top}/{it}{file}")]
-        for name in re.findall(r"\w+", names) if texts else []:
+        for name in re.findall(r"`(\w+)`", names) if texts else []:
             if not any(re.search(rf"\b(?:fn|struct|enum|trait|const) {name}\b", text) for text in texts):
                 yield f"there is no {name} in {file}"
 

@@ -65,8 +65,8 @@ def put_all(root, libdir, includedir, program, agent, demo, prefix):
     manual.main(pages)
     for name in manual.PAGES:
         put(root, f'share/man/man{name[-1]}/{name}', f'{pages}/{name}')
-    for pattern in ('README.md', 'CHANGELOG.md', 'docs/*.md', 'docs/*.png', 'docs/help/*.txt', 'agent/README.md',
-                    'examples/*.*', 'examples/agent/*'):
+    for pattern in ('README.md', 'CHANGELOG.md', 'docs/*.md', 'docs/*.png', 'docs/*.svg', 'docs/help/*.txt',
+                    'agent/README.md', 'examples/*.*', 'examples/agent/*'):
         for file in sorted(glob.glob(f'{TOP}/{pattern}')):
             put(root, f'share/doc/jg/{os.path.relpath(file, TOP)}', file, 0o755 if os.access(file, os.X_OK) else 0o644)
 
