@@ -1,14 +1,24 @@
 """What documents say of crates, compared with crates.txt and the sources, for tests/documents."""
 
 import glob
+import os
 import re
 
 # A crate that is no subject of its own: "`jg_a` on `jg_b`, `jg_c` on `jg_d`" says nothing of `jg_a` and `jg_c`.
 CRATE = r"`jg_\w+`(?! (?:stands )?on\b)"
 SENTENCE = re.compile(rf"`(jg_\w+)` (?:stands )?on ({CRATE}(?:(?:,| and|, and)?(?: on)? {CRATE})*)")
-# "`judge_one`, `judge_two` in `judge/references.rt`", of which files are named from these folders.
-NAMED = re.compile(r"((?:`\w+`(?:, | and ))*`\w+`) (?:of `\w+` )?in `([\w/]+\.rt)`")
-FOLDERS = ("", "crates/", "crates/jg_rules/src/", "crates/jg_judge/src/")
+# "`one`, `two` in `faults.rt`", "`three` in `Fun.antt` of `jg_words`", of which files are named from these folders.
+NAMED = re.compile(
+    r"((?:`\w+`(?:, | and ))*`\w+`) (?:of `\w+` )?in `([\w/]+\.(?:rt|antt|c|py))`(?: of `(jg_\w+)`)?"
+)
+FOLDERS = ("", "crates/", "crates/*/", "crates/jg_rules/src/", "crates/jg_rules/specs/", "crates/jg_judge/src/")
+# How a file that ends so defines a name.
+DEFINED = {
+    ".rt": r"\b(?:fn|struct|enum|trait|const|ghost) {}\b",
+    ".antt": r"^ *(?:(?:abbrev|unfoldable|pub|record|data) )*{}\b",
+    ".c": r"^\w[\w *]*\b{}\(",
+    ".py": r"\b(?:def|class) {}\b",
+}
 # "- **Tables**: `jg_a`, `jg_b`. .." in the list of floors.
 FLOOR = re.compile(r"^- \*\*([^*`]+)\*\*: ((?:`jg_\w+`[,.]\s+)+)", re.M)
 BULLET = re.compile(r"^- \*\*`(jg_\w+)`\*\*", re.M)
@@ -44,12 +54,15 @@ def code_of(path):
         return re.sub(r"//.*", "", file.read())
 
 
-def lost_functions(top, document):
-    """Yields each function or type that ARCHITECTURE.md names in a file which doesn't define it."""
-    for names, file in NAMED.findall(document):
-        texts = [code_of(path) for it in FOLDERS for path in glob.glob(f"{top}/{it}{file}")]
+def lost_names(top, document):
+    """Yields each function, type or definition that a document names in a file which doesn't define it."""
+    for names, file, crate in NAMED.findall(document):
+        folders = (f"crates/{crate}/src/", f"crates/{crate}/specs/") if crate else FOLDERS
+        texts = [code_of(path) for it in folders for path in glob.glob(f"{top}/{it}{file}")]
+        form = DEFINED[file[file.rindex(".") :]]
         for name in re.findall(r"`(\w+)`", names) if texts else []:
-            if not any(re.search(rf"\b(?:fn|struct|enum|trait|const) {name}\b", text) for text in texts):
+            is_crate = os.path.isdir(f"{top}/crates/{name}")
+            if not is_crate and not any(re.search(form.format(name), text, re.M) for text in texts):
                 yield f"there is no {name} in {file}"
 
 

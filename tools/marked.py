@@ -1,10 +1,11 @@
-"""Texts that scripts write into documents. Such a text stands between two comments, which name its script:
+"""Texts that scripts write into documents. Such a part stands between two comments, of which the first names its script:
 
     <!-- tools/NAME writes this part -->
     ..
     <!-- the part of tools/NAME ends -->
 
-A script has a function that makes its files: by path from the top, what each holds. `main` writes them or compares."""
+A script with several parts in a document gives each a label: `<!-- tools/NAME writes this part: LABEL -->`. It has a
+function that makes its files: what each holds, by its path from the top. `main` writes them, or compares."""
 import os
 import re
 import sys
@@ -17,13 +18,13 @@ def read(path):
         return file.read()
 
 
-def document_with(path, script, part):
-    """The document with this text as the script's part."""
-    begin, end = f'<!-- tools/{script} writes this part -->\n', f'<!-- the part of tools/{script} ends -->\n'
-    text = read(path)
-    found = re.findall(rf'{re.escape(begin)}.*?{re.escape(end)}', text, re.S)
+def with_part(text, path, script, part, label=''):
+    """The text of the document at this path, with this as the script's part."""
+    begin = f'<!-- tools/{script} writes this part{": " if label else ""}{label} -->\n'
+    end = f'<!-- the part of tools/{script} ends -->\n'
+    found = re.findall(f'{re.escape(begin)}.*?{re.escape(end)}', text, re.S)
     if len(found) != 1:
-        sys.exit(f'tools/{script}: {path} has no part of it, or several')
+        sys.exit(f'tools/{script}: {path} has {len(found)} times "{begin.strip()}"')
     return text.replace(found[0], f'{begin}\n{part}\n{end}')
 
 
