@@ -12,3 +12,4 @@ pub mod Beside
 pub mod Reports
 pub mod Records
 pub mod Retold
+pub mod Given

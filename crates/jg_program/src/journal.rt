@@ -15,8 +15,9 @@ ghost use Rattle.jg_program.specs.Reported.{EndsQuietly};
 
 use crate::about::About;
 use crate::advising::{advice_of, begin_advising};
-use crate::reporting::{Reporting, report};
+use crate::reporting::report;
 use crate::stop::{ProgramEnd, ProgramStop, Status, quietly};
+use crate::terms::{Streams, Terms};
 use itoa::Buffer;
 use jg_guard::Guard;
 use jg_guard_advice::GuardAdviser;
@@ -87,20 +88,20 @@ fn test_lines<R: BufRead, W: HandsOn>(
     alloc: Global,
     guard: &mut Guard,
     beside: &mut Option<GuardAdviser>,
-    reader: &mut Watched<R>,
-    out: &mut Watched<W>,
+    streams: &mut Streams<R, W>,
     line: &mut Vec<u8>,
 ) -> Result<Replayed, ProgramStop>
     requires { guard.old.journal ≡ [] }
-    ensures tests { TestsLines (R.remaining reader.old.device) (R.remaining reader.new.device)
-        (W.contents out.old.device) (W.contents out.new.device) guard.old.setup guard.old.limit guard.new.journal
-        line.new.items result }
+    ensures tests { TestsLines (R.remaining streams.old.reader.device) (R.remaining streams.new.reader.device)
+        (W.contents streams.old.out.device) (W.contents streams.new.out.device) guard.old.setup guard.old.limit
+        guard.new.journal line.new.items result }
     ensures legal { Legal guard.new.setup guard.new.journal }
     ensures setup { guard.new.setup ≡ guard.old.setup }
-    ensures handed_on { IsHandedOn (W.holds_nothing out.new.device) out.new.failed result }
+    ensures handed_on { IsHandedOn (W.holds_nothing streams.new.out.device) streams.new.out.failed result }
     ensures beside { (r : ReportingOf) → StandsBeside r beside.old guard.old.setup []
         → StandsBeside r beside.new guard.new.setup guard.new.journal }
 {
+    let (reader, out) = (&mut streams.reader, &mut streams.out);
     let said = match replay_beside(alloc, guard, beside, reader, line) {
         Ok(replayed) => match say(out, replayed.verdict()) {
             Ok(()) => Ok(replayed),
@@ -129,22 +130,22 @@ pub fn end_without_guard<W: HandsOn>(alloc: Global, out: &mut Watched<W>) -> Pro
 /// Tests the journal that the reader holds, under this setup, and says what it is.
 pub fn test_journal<R: BufRead, W: HandsOn>(
     alloc: Global,
-    reporting: Reporting,
+    terms: Terms,
     setup: Setup,
-    limit: u32,
-    reader: &mut Watched<R>,
-    out: &mut Watched<W>,
+    streams: &mut Streams<R, W>,
 ) -> ProgramEnd
-    ensures ends { EndsJournal reporting setup (R.remaining reader.old.device) (R.remaining reader.new.device)
-        (W.contents out.old.device) (W.contents out.new.device) limit result }
-    ensures handed_on { IsHandedOn (W.holds_nothing out.new.device) out.new.failed result.ended }
+    ensures ends { EndsJournal terms.reporting setup (R.remaining streams.old.reader.device)
+        (R.remaining streams.new.reader.device) (W.contents streams.old.out.device)
+        (W.contents streams.new.out.device) terms.limit result }
+    ensures handed_on { IsHandedOn (W.holds_nothing streams.new.out.device) streams.new.out.failed result.ended }
 {
-    let Ok(mut guard) = Guard::new(alloc, alloc, setup, limit) else {
-        return end_without_guard(alloc, out);
+    let Ok(mut guard) = Guard::new(alloc, alloc, setup, terms.limit) else {
+        return end_without_guard(alloc, &mut streams.out);
     };
     let mut line = Vec::new(alloc);
+    let reporting = terms.reporting;
     let (mut beside, begun) = begin_advising(alloc, reporting);
-    let tested = test_lines(alloc, &mut guard, &mut beside, reader, out, &mut line);
+    let tested = test_lines(alloc, &mut guard, &mut beside, streams, &mut line);
     let advised = advice_of(alloc, beside, begun);
     match tested {
         Ok(replayed) => {

@@ -16,6 +16,7 @@ mod retelling;
 mod setup_file;
 mod stop;
 mod summary;
+mod terms;
 
 pub use files::Files;
 pub use program::run;

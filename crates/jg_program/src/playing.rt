@@ -17,6 +17,7 @@ use crate::about::{About, end_unread};
 use crate::advising::advice_on;
 use crate::reporting::{Reporting, report};
 use crate::stop::{ProgramEnd, ProgramStop, Status, quietly};
+use crate::terms::Terms;
 use jg_guard::Guard;
 use jg_policy::{Setup, SetupFault};
 use jg_script::{HandsOn, RunFault, Scripts, Watched, read_script_lines, write_journal};
@@ -201,33 +202,32 @@ fn settle_play<L: Ledger, W: HandsOn>(
     }
 }
 
-/// Plays the scripts under this setup by a thread each, which begin together, and writes the journal. A
-/// busy monitor is tried `turns` times at most. The shares of the ledger `L` count the calls.
+/// Plays the scripts under this setup by a thread each, which begin together, and writes the journal. The shares of the
+/// ledger `L` count the calls.
 fn play_scripts<L: Ledger + Send + Sync, T: Threads + Wait + Sync, W: HandsOn>(
     rt: &T,
     alloc: Global,
-    reporting: Reporting,
+    terms: Terms,
     blank: Blank,
     setup: Setup,
-    limit: u32,
-    turns: u32,
     scripts: Scripts,
     out: &mut Watched<W>,
 ) -> ProgramEnd
     requires name { blank.name ≡ L.name }
     requires parts { blank.parts ≡ L.parts }
     requires enough { 64 ≤ blank.parts }
-    requires turns { 1 ≤ turns }
-    ensures plays { PlaysOut reporting turns scripts (W.contents out.old.device) (W.contents out.new.device) result }
+    requires turns { 1 ≤ terms.turns }
+    ensures plays { PlaysOut terms.reporting terms.turns scripts (W.contents out.old.device)
+        (W.contents out.new.device) result }
     ensures handed_on { IsHandedOn (W.holds_nothing out.new.device) out.new.failed result.ended }
 {
-    let Ok((shared, mut workers)) = SharedGuard::<L>::new(alloc, setup, limit, scripts, blank)
+    let Ok((shared, mut workers)) = SharedGuard::<L>::new(alloc, setup, terms.limit, scripts, blank)
     else {
         return quietly(alloc, Err(ProgramStop::Setup(SetupFault::NoMemory)));
     };
     let gate = Meeting::new(workers.len(), LOOKS);
-    play(rt, &shared, workers.as_mut_slice(), turns, &gate);
-    settle_play(alloc, reporting, shared, workers, out)
+    play(rt, &shared, workers.as_mut_slice(), terms.turns, &gate);
+    settle_play(alloc, terms.reporting, shared, workers, out)
 }
 
 /// The scripts of a file. `line` is room for one of its lines, and holds the one that is refused at the end, if there
@@ -245,30 +245,25 @@ fn scripts_in<F: Read + Drop>(
     read_script_lines(alloc, &mut Watched::new(reader), line)
 }
 
-/// Plays the scripts of the file under this setup, and writes the journal. A busy monitor is tried
-/// `turns` times at most.
+/// Plays the scripts of the file under this setup, and writes the journal.
 pub fn play_file<T: Threads + Wait + Sync, F: Read + Drop, W: HandsOn>(
     rt: &T,
     alloc: Global,
-    reporting: Reporting,
+    terms: Terms,
     setup: Setup,
-    limit: u32,
-    turns: u32,
     file: F,
     out: &mut Watched<W>,
 ) -> ProgramEnd
-    requires { 1 ≤ turns }
-    ensures ends { EndsPlay reporting turns (F.remaining file) (W.contents out.old.device)
+    requires { 1 ≤ terms.turns }
+    ensures ends { EndsPlay terms.reporting terms.turns (F.remaining file) (W.contents out.old.device)
         (W.contents out.new.device) result }
 {
     let mut line = Vec::new(alloc);
     match scripts_in(alloc, file, &mut line) {
         Ok(scripts) => {
             let blank = Blank::new(64);
-            play_scripts::<Brand, _, _>(
-                rt, alloc, reporting, blank, setup, limit, turns, scripts, out,
-            )
+            play_scripts::<Brand, _, _>(rt, alloc, terms, blank, setup, scripts, out)
         }
-        Err(fault) => end_unread(alloc, reporting.explain > 0, &line, fault),
+        Err(fault) => end_unread(alloc, terms.reporting.explain > 0, &line, fault),
     }
 }

@@ -1,11 +1,11 @@
 //! What the program does, over any words, reader and writers.
 
-ghost use Rattle.std.specs.Prelude.{IfOk, ◌≡◌, ◌≤◌, []};
+ghost use Rattle.std.specs.Prelude.{IfOk, IfSome, ◌≡◌, ◌≤◌, []};
 ghost use Rattle.jg_rules.specs.Legal.{Legal};
 ghost use Rattle.jg_program.specs.declared.stop.Status.TheVariants.{Done};
 ghost use Rattle.jg_program.specs.declared.reporting.Reporting.{Reporting as ReportingOf};
 ghost use Rattle.jg_program.specs.Advising.{StandsBeside};
-ghost use Rattle.jg_program.specs.Ended.{AnswersLines, Ends, EndsClosed, EndsScript, EndsUnder, IsHandedOn};
+ghost use Rattle.jg_program.specs.Ended.{AnswersLines, EndsClosed, EndsScript, EndsUnder, IsHandedOn};
 
 use crate::about::{About, end_refused};
 use crate::advising::{advice_of, begin_advising};
@@ -16,8 +16,9 @@ use crate::playing::{play_file, script_stop_of};
 use crate::recording::answer_record;
 use crate::reporting::{Reporting, report};
 use crate::retelling::retell_record;
-use crate::setup_file::{closed_setup, read_setup, stop_of};
+use crate::setup_file::{setup_of, stop_of};
 use crate::stop::{ProgramEnd, ProgramStop, Status, quietly, say_ending};
+use crate::terms::{Streams, Terms};
 use jg_args::{ArgsFault, Asked, Task, help_text, read_words};
 use jg_guard::Guard;
 use jg_guard_advice::GuardAdviser;
@@ -54,20 +55,20 @@ fn answer_lines<R: BufRead, W: HandsOn>(
     alloc: Global,
     guard: &mut Guard,
     beside: &mut Option<GuardAdviser>,
-    reader: &mut Watched<R>,
-    out: &mut Watched<W>,
+    streams: &mut Streams<R, W>,
     line: &mut Vec<u8>,
 ) -> Result<Status, ProgramStop>
     requires { guard.old.journal ≡ [] }
-    ensures answers { AnswersLines (R.remaining reader.old.device) (R.remaining reader.new.device)
-        (W.contents out.old.device) (W.contents out.new.device) guard.old.limit guard.new.journal line.new.items
-        result }
+    ensures answers { AnswersLines (R.remaining streams.old.reader.device) (R.remaining streams.new.reader.device)
+        (W.contents streams.old.out.device) (W.contents streams.new.out.device) guard.old.limit guard.new.journal
+        line.new.items result }
     ensures legal { Legal guard.new.setup guard.new.journal }
     ensures setup { guard.new.setup ≡ guard.old.setup }
-    ensures handed_on { IsHandedOn (W.holds_nothing out.new.device) out.new.failed result }
+    ensures handed_on { IsHandedOn (W.holds_nothing streams.new.out.device) streams.new.out.failed result }
     ensures beside { (r : ReportingOf) → StandsBeside r beside.old guard.old.setup []
         → StandsBeside r beside.new guard.new.setup guard.new.journal }
 {
+    let (reader, out) = (&mut streams.reader, &mut streams.out);
     let checked = check_beside(alloc, guard, beside, reader, out, line);
     let Ok(()) = out.flush() else {
         let line = guard.journal_len().max(1) as u64;
@@ -83,26 +84,25 @@ fn answer_lines<R: BufRead, W: HandsOn>(
 /// that no way out of that one drops a guard.
 fn answer_script<R: BufRead, W: HandsOn>(
     alloc: Global,
-    reporting: Reporting,
+    terms: Terms,
     setup: Setup,
-    limit: u32,
-    reader: &mut Watched<R>,
-    out: &mut Watched<W>,
+    streams: &mut Streams<R, W>,
 ) -> ProgramEnd
-    ensures ends { EndsScript reporting setup (R.remaining reader.old.device) (R.remaining reader.new.device)
-        (W.contents out.old.device) (W.contents out.new.device) limit result }
-    ensures handed_on { IsHandedOn (W.holds_nothing out.new.device) out.new.failed result.ended }
+    ensures ends { EndsScript terms.reporting setup (R.remaining streams.old.reader.device)
+        (R.remaining streams.new.reader.device) (W.contents streams.old.out.device)
+        (W.contents streams.new.out.device) terms.limit result }
+    ensures handed_on { IsHandedOn (W.holds_nothing streams.new.out.device) streams.new.out.failed result.ended }
 {
-    let Ok(mut guard) = Guard::new(alloc, alloc, setup, limit) else {
+    let Ok(mut guard) = Guard::new(alloc, alloc, setup, terms.limit) else {
         return quietly(alloc, Err(ProgramStop::Setup(SetupFault::NoMemory)));
     };
     let mut line = Vec::new(alloc);
-    let (mut beside, begun) = begin_advising(alloc, reporting);
-    let ended = answer_lines(alloc, &mut guard, &mut beside, reader, out, &mut line);
+    let (mut beside, begun) = begin_advising(alloc, terms.reporting);
+    let ended = answer_lines(alloc, &mut guard, &mut beside, streams, &mut line);
     let advised = advice_of(alloc, beside, begun);
     let ending = report(
         alloc,
-        reporting,
+        terms.reporting,
         &guard,
         About::Script(&line),
         ended,
@@ -114,69 +114,32 @@ fn answer_script<R: BufRead, W: HandsOn>(
     ending
 }
 
-/// Does what is asked for with the bytes of the reader, under this setup, which was given or is the closed one.
-fn work<R: BufRead, W: HandsOn>(
+/// Does the job with the bytes of the reader, under the setup that the given file states, of which the system told the
+/// length, or under the closed one where none is given. The file is read and closed before the reader's first byte.
+fn work<F: Read + Drop, R: BufRead, W: HandsOn>(
     alloc: Global,
     job: Job,
-    reporting: Reporting,
-    setup: Setup,
-    limit: u32,
-    reader: &mut Watched<R>,
-    out: &mut Watched<W>,
+    terms: Terms,
+    given: Option<(F, u64)>,
+    streams: &mut Streams<R, W>,
 ) -> ProgramEnd
-    ensures ends { Ends job reporting setup (R.remaining reader.old.device) (R.remaining reader.new.device)
-        (W.contents out.old.device) (W.contents out.new.device) limit result }
-    ensures handed_on { IsHandedOn (W.holds_nothing out.new.device) out.new.failed result.ended }
+    ensures closed { given ≡ None → EndsClosed job terms.reporting (R.remaining streams.old.reader.device)
+        (R.remaining streams.new.reader.device) (W.contents streams.old.out.device)
+        (W.contents streams.new.out.device) terms.limit result }
+    ensures under { IfSome given (λ file. EndsUnder job terms.reporting (F.remaining file.0) file.1
+        (R.remaining streams.old.reader.device) (R.remaining streams.new.reader.device)
+        (W.contents streams.old.out.device) (W.contents streams.new.out.device) terms.limit result) }
+    ensures handed_on { IsHandedOn (W.holds_nothing streams.new.out.device) streams.new.out.failed result.ended }
 {
+    let setup = match setup_of(alloc, terms.reporting.explain > 0, given) {
+        Ok(setup) => setup,
+        Err(refused) => return refused,
+    };
     match job {
-        Job::Check => answer_script(alloc, reporting, setup, limit, reader, out),
-        Job::Verify => test_journal(alloc, reporting, setup, limit, reader, out),
-        Job::Watch(shown) => answer_record(alloc, reporting, shown, setup, reader, out),
-        Job::Facts => retell_record(alloc, setup, limit, reader, out),
-    }
-}
-
-/// Does it under the closed setup, where none is given: its contract names that setup.
-fn work_closed<R: BufRead, W: HandsOn>(
-    alloc: Global,
-    job: Job,
-    reporting: Reporting,
-    limit: u32,
-    reader: &mut Watched<R>,
-    out: &mut Watched<W>,
-) -> ProgramEnd
-    ensures ends { EndsClosed job reporting (R.remaining reader.old.device) (R.remaining reader.new.device)
-        (W.contents out.old.device) (W.contents out.new.device) limit result }
-    ensures handed_on { IsHandedOn (W.holds_nothing out.new.device) out.new.failed result.ended }
-{
-    match closed_setup(alloc) {
-        Ok(setup) => work(alloc, job, reporting, setup, limit, reader, out),
-        Err(fault) => quietly(alloc, Err(ProgramStop::Setup(fault))),
-    }
-}
-
-/// Does it under the setup that a file states, of which the system told the length: its contract speaks of the bytes of
-/// the file. That is read and closed before the reader's first byte.
-fn work_under<F: Read + Drop, R: BufRead, W: HandsOn>(
-    alloc: Global,
-    job: Job,
-    reporting: Reporting,
-    mut file: F,
-    told: u64,
-    limit: u32,
-    reader: &mut Watched<R>,
-    out: &mut Watched<W>,
-) -> ProgramEnd
-    ensures ends { EndsUnder job reporting (F.remaining file) told (R.remaining reader.old.device)
-        (R.remaining reader.new.device) (W.contents out.old.device) (W.contents out.new.device) limit result }
-    ensures handed_on { IsHandedOn (W.holds_nothing out.new.device) out.new.failed result.ended }
-{
-    let read = read_setup(alloc, reporting.explain > 0, &mut file, told);
-    // Else its number could be that of a standard input that was closed.
-    drop(file);
-    match read {
-        Ok(setup) => work(alloc, job, reporting, setup, limit, reader, out),
-        Err(ending) => ending,
+        Job::Check => answer_script(alloc, terms, setup, streams),
+        Job::Verify => test_journal(alloc, terms, setup, streams),
+        Job::Watch(shown) => answer_record(alloc, terms.reporting, shown, setup, streams),
+        Job::Facts => retell_record(alloc, terms.limit, setup, streams),
     }
 }
 
@@ -196,66 +159,20 @@ fn print_help<W: HandsOn>(alloc: Global, words: &[&str], out: &mut W) -> Result<
     }
 }
 
-/// The setup of the file that is asked for, or the one where none is; or how the program ends without it.
-fn setup_at<S: Files>(alloc: Global, asked: Asked<'_>, files: &S) -> Result<Setup, ProgramEnd> {
-    let Some(path) = asked.setup else {
-        return match closed_setup(alloc) {
-            Ok(setup) => Ok(setup),
-            Err(fault) => Err(quietly(alloc, Err(ProgramStop::Setup(fault)))),
-        };
-    };
-    match files.open(path) {
-        Ok((mut file, told)) => read_setup(alloc, asked.explain > 0, &mut file, told),
-        Err(error) => Err(quietly(alloc, Err(stop_of(&error)))),
-    }
-}
-
-/// Answers a script or tests a journal on standard input. No contract says what a path opens, so what is promised
-/// stands at the two functions that are called here.
-fn serve<S: Files, R: BufRead + Drop, W: HandsOn + Drop>(
+/// The file of the setup that is asked for, opened, and how long the system says that it is, or `None` where none is
+/// asked for; or how the program ends where it can't be opened. No contract says what a path opens.
+fn setup_at<S: Files>(
     alloc: Global,
-    job: Job,
     asked: Asked<'_>,
     files: &S,
-    reader: R,
-    out: W,
-) -> ProgramEnd {
-    let (mut reader, mut out) = (Watched::new(reader), Watched::new(out));
-    let reporting = reporting_of(asked);
-    let limit = asked.limit;
+) -> Result<Option<(S::File, u64)>, ProgramEnd> {
     let Some(path) = asked.setup else {
-        return work_closed(alloc, job, reporting, limit, &mut reader, &mut out);
+        return Ok(None);
     };
     match files.open(path) {
-        Ok((file, told)) => work_under(
-            alloc,
-            job,
-            reporting,
-            file,
-            told,
-            limit,
-            &mut reader,
-            &mut out,
-        ),
-        Err(error) => quietly(alloc, Err(stop_of(&error))),
+        Ok((file, told)) => Ok(Some((file, told))),
+        Err(error) => Err(quietly(alloc, Err(stop_of(&error)))),
     }
-}
-
-/// Plays the scripts of a file, under this setup.
-fn play_under<T: Threads + Wait + Sync, F: Read + Drop, W: HandsOn + Drop>(
-    rt: &T,
-    alloc: Global,
-    setup: Setup,
-    asked: Asked<'_>,
-    file: F,
-    out: W,
-) -> ProgramEnd
-    requires { 1 ≤ asked.turns }
-{
-    let mut out = Watched::new(out);
-    let (limit, turns) = (asked.limit, asked.turns);
-    let reporting = reporting_of(asked);
-    play_file(rt, alloc, reporting, setup, limit, turns, file, &mut out)
 }
 
 /// Plays the scripts of the file at this path, or of standard input. The setup is read first.
@@ -270,15 +187,20 @@ fn serve_play<T: Threads + Wait + Sync, S: Files, R: BufRead + Drop, W: HandsOn 
 ) -> ProgramEnd
     requires { 1 ≤ asked.turns }
 {
-    let setup = match setup_at(alloc, asked, files) {
+    let given = match setup_at(alloc, asked, files) {
+        Ok(given) => given,
+        Err(ending) => return ending,
+    };
+    let setup = match setup_of(alloc, asked.explain > 0, given) {
         Ok(setup) => setup,
         Err(ending) => return ending,
     };
+    let (terms, mut out) = (terms_of(asked), Watched::new(out));
     if path == STANDARD_INPUT {
-        return play_under(rt, alloc, setup, asked, reader, out);
+        return play_file(rt, alloc, terms, setup, reader, &mut out);
     }
     match files.open(path) {
-        Ok((file, _)) => play_under(rt, alloc, setup, asked, file, out),
+        Ok((file, _)) => play_file(rt, alloc, terms, setup, file, &mut out),
         Err(error) => quietly(alloc, Err(script_stop_of(&error))),
     }
 }
@@ -307,14 +229,33 @@ fn shown_of(asked: Asked<'_>) -> Shown {
     }
 }
 
-fn reporting_of(asked: Asked<'_>) -> Reporting {
-    Reporting {
-        explain: asked.explain,
-        advice: asked.advice,
-        region: asked.region,
-        strict: asked.strict,
-        leaks: asked.leaks,
-        summary: asked.summary,
+fn terms_of(asked: Asked<'_>) -> Terms
+    ensures { result.turns ≡ asked.entry.turns }
+{
+    Terms {
+        reporting: Reporting {
+            explain: asked.explain,
+            advice: asked.advice,
+            region: asked.region,
+            strict: asked.strict,
+            leaks: asked.leaks,
+            summary: asked.summary,
+        },
+        limit: asked.limit,
+        turns: asked.turns,
+    }
+}
+
+/// How the program ends where the words ask for nothing to be done: for the help or the version, or they are refused.
+fn end_without_task<W: HandsOn>(
+    alloc: Global,
+    words: &[&str],
+    fault: ArgsFault,
+    out: &mut W,
+) -> ProgramEnd {
+    match fault {
+        ArgsFault::Help => quietly(alloc, print_help(alloc, words, out)),
+        fault => end_refused(alloc, words, fault),
     }
 }
 
@@ -329,24 +270,26 @@ pub fn run<T: Threads + Wait + Sync, S: Files, R: BufRead + Drop, W: HandsOn + D
     mut out: W,
     err: &mut E,
 ) -> Status {
-    let ending = match read_words(alloc, words) {
-        Ok(asked) => match asked.task {
-            Task::Check => serve(alloc, Job::Check, asked, files, reader, out),
-            Task::Verify => serve(alloc, Job::Verify, asked, files, reader, out),
-            Task::Watch => serve(
-                alloc,
-                Job::Watch(shown_of(asked)),
-                asked,
-                files,
-                reader,
-                out,
-            ),
-            Task::Facts => serve(alloc, Job::Facts, asked, files, reader, out),
-            Task::Play(path) => serve_play(rt, alloc, path, asked, files, reader, out),
-            Task::Migrate(path) => serve_migration(alloc, path, files, out),
-        },
-        Err(ArgsFault::Help) => quietly(alloc, print_help(alloc, words, &mut out)),
-        Err(fault) => end_refused(alloc, words, fault),
+    let asked = match read_words(alloc, words) {
+        Ok(asked) => asked,
+        Err(fault) => return say_ending(end_without_task(alloc, words, fault, &mut out), err),
+    };
+    let job = match asked.task {
+        Task::Check => Job::Check,
+        Task::Verify => Job::Verify,
+        Task::Watch => Job::Watch(shown_of(asked)),
+        Task::Facts => Job::Facts,
+        Task::Play(path) => {
+            return say_ending(serve_play(rt, alloc, path, asked, files, reader, out), err);
+        }
+        Task::Migrate(path) => return say_ending(serve_migration(alloc, path, files, out), err),
+    };
+    let ending = match setup_at(alloc, asked, files) {
+        Ok(given) => {
+            let mut streams = Streams::new(reader, out);
+            work(alloc, job, terms_of(asked), given, &mut streams)
+        }
+        Err(ending) => ending,
     };
     say_ending(ending, err)
 }

@@ -17,6 +17,7 @@ use crate::journal::{write_difference, write_number};
 use crate::record_report::report_record;
 use crate::reporting::Reporting;
 use crate::stop::{ProgramEnd, ProgramStop};
+use crate::terms::Streams;
 use jg_advice::AdviceLog;
 use jg_policy::Setup;
 use jg_record::cut_line;
@@ -75,8 +76,7 @@ fn answer_lines<R: BufRead, W: HandsOn>(
     alloc: Global,
     watch: &mut Watch,
     shown: Shown,
-    reader: &mut Watched<R>,
-    out: &mut Watched<W>,
+    streams: &mut Streams<R, W>,
     text: &mut Vec<u8>,
     explanations: &mut Explanations,
     log: &mut Option<AdviceLog>,
@@ -86,14 +86,15 @@ fn answer_lines<R: BufRead, W: HandsOn>(
     requires denied { watch.old.denied ≡ 0 }
     requires explained { explanations.old.text ≡ Some [] }
     requires advised { LogStandsIf log.old [] }
-    ensures answers { AnswersRecord watch.old.core.setup shown (R.remaining reader.old.device)
-        (R.remaining reader.new.device) text.new.items (W.contents out.old.device) (W.contents out.new.device)
-        watch.new explanations.new log.new result }
+    ensures answers { AnswersRecord watch.old.core.setup shown (R.remaining streams.old.reader.device)
+        (R.remaining streams.new.reader.device) text.new.items (W.contents streams.old.out.device)
+        (W.contents streams.new.out.device) watch.new explanations.new log.new result }
     ensures most { explanations.new.most ≡ explanations.old.most }
     ensures lost { explanations.new.text ≡ None → 0 < explanations.old.most }
     ensures advising { advising_of log.new ≡ advising_of log.old }
-    ensures handed_on { IsHandedOn (W.holds_nothing out.new.device) out.new.failed result }
+    ensures handed_on { IsHandedOn (W.holds_nothing streams.new.out.device) streams.new.out.failed result }
 {
+    let (reader, out) = (&mut streams.reader, &mut streams.out);
     let answered = watch_lines(alloc, watch, shown, reader, out, text, explanations, log);
     let written = match answered {
         Ok(ended) => write_ended(out, ended, text),
@@ -170,12 +171,12 @@ pub fn answer_record<R: BufRead, W: HandsOn>(
     reporting: Reporting,
     shown: Shown,
     setup: Setup,
-    reader: &mut Watched<R>,
-    out: &mut Watched<W>,
+    streams: &mut Streams<R, W>,
 ) -> ProgramEnd
-    ensures ends { EndsRecord reporting setup shown (R.remaining reader.old.device) (R.remaining reader.new.device)
-        (W.contents out.old.device) (W.contents out.new.device) result }
-    ensures handed_on { IsHandedOn (W.holds_nothing out.new.device) out.new.failed result.ended }
+    ensures ends { EndsRecord reporting setup shown (R.remaining streams.old.reader.device)
+        (R.remaining streams.new.reader.device) (W.contents streams.old.out.device)
+        (W.contents streams.new.out.device) result }
+    ensures handed_on { IsHandedOn (W.holds_nothing streams.new.out.device) streams.new.out.failed result.ended }
 {
     let mut watch = Watch::new(alloc, setup);
     let mut text = Vec::new(alloc);
@@ -185,8 +186,7 @@ pub fn answer_record<R: BufRead, W: HandsOn>(
         alloc,
         &mut watch,
         shown,
-        reader,
-        out,
+        streams,
         &mut text,
         &mut explanations,
         &mut log,

@@ -6,6 +6,7 @@ ghost use Rattle.jg_program.specs.Retold.{EndsFacts, RetellsLines, SaysRead, Tel
 
 use crate::journal::{end_without_guard, status_of, write_difference};
 use crate::stop::{ProgramEnd, ProgramStop, quietly};
+use crate::terms::Streams;
 use jg_guard::Guard;
 use jg_journal_record::{RetellFault, retell_journal};
 use jg_policy::Setup;
@@ -54,16 +55,16 @@ fn say<W: Write>(
 fn tell_lines<R: BufRead, W: HandsOn>(
     alloc: Global,
     guard: &mut Guard,
-    reader: &mut Watched<R>,
-    out: &mut Watched<W>,
+    streams: &mut Streams<R, W>,
 ) -> Result<Replayed, ProgramStop>
     requires { guard.old.journal ≡ [] }
-    ensures tells { TellsLines (R.remaining reader.old.device) (R.remaining reader.new.device)
-        (W.contents out.old.device) (W.contents out.new.device) guard.old.setup guard.old.limit guard.new.journal
-        result }
-    ensures handed_on { IsHandedOn (Unit {0}) out.new.failed result }
+    ensures tells { TellsLines (R.remaining streams.old.reader.device) (R.remaining streams.new.reader.device)
+        (W.contents streams.old.out.device) (W.contents streams.new.out.device) guard.old.setup guard.old.limit
+        guard.new.journal result }
+    ensures handed_on { IsHandedOn (Unit {0}) streams.new.out.failed result }
 {
     let mut text = Vec::new(alloc);
+    let (reader, out) = (&mut streams.reader, &mut streams.out);
     match retell_journal(alloc, guard, reader, out, &mut text) {
         Ok(read) => say(out, read),
         Err(fault) => Err(ProgramStop::Run(run_fault(fault))),
@@ -75,17 +76,16 @@ fn tell_lines<R: BufRead, W: HandsOn>(
 fn retell_lines<R: BufRead, W: HandsOn>(
     alloc: Global,
     guard: &mut Guard,
-    reader: &mut Watched<R>,
-    out: &mut Watched<W>,
+    streams: &mut Streams<R, W>,
 ) -> Result<Replayed, ProgramStop>
     requires { guard.old.journal ≡ [] }
-    ensures retells { RetellsLines (R.remaining reader.old.device) (R.remaining reader.new.device)
-        (W.contents out.old.device) (W.contents out.new.device) guard.old.setup guard.old.limit guard.new.journal
-        result }
-    ensures handed_on { IsHandedOn (W.holds_nothing out.new.device) out.new.failed result }
+    ensures retells { RetellsLines (R.remaining streams.old.reader.device) (R.remaining streams.new.reader.device)
+        (W.contents streams.old.out.device) (W.contents streams.new.out.device) guard.old.setup guard.old.limit
+        guard.new.journal result }
+    ensures handed_on { IsHandedOn (W.holds_nothing streams.new.out.device) streams.new.out.failed result }
 {
-    let told = tell_lines(alloc, guard, reader, out);
-    match out.flush() {
+    let told = tell_lines(alloc, guard, streams);
+    match streams.out.flush() {
         Ok(()) => told,
         Err(_) => Err(ProgramStop::Run(RunFault::Write {
             line: guard.journal_len().max(1) as u64,
@@ -96,19 +96,18 @@ fn retell_lines<R: BufRead, W: HandsOn>(
 /// Writes the record of the journal that the reader holds, under this setup, and says where the journal differs.
 pub fn retell_record<R: BufRead, W: HandsOn>(
     alloc: Global,
-    setup: Setup,
     limit: u32,
-    reader: &mut Watched<R>,
-    out: &mut Watched<W>,
+    setup: Setup,
+    streams: &mut Streams<R, W>,
 ) -> ProgramEnd
-    ensures ends { EndsFacts setup (R.remaining reader.old.device) (R.remaining reader.new.device)
-        (W.contents out.old.device) (W.contents out.new.device) limit result }
-    ensures handed_on { IsHandedOn (W.holds_nothing out.new.device) out.new.failed result.ended }
+    ensures ends { EndsFacts setup (R.remaining streams.old.reader.device) (R.remaining streams.new.reader.device)
+        (W.contents streams.old.out.device) (W.contents streams.new.out.device) limit result }
+    ensures handed_on { IsHandedOn (W.holds_nothing streams.new.out.device) streams.new.out.failed result.ended }
 {
     let Ok(mut guard) = Guard::new(alloc, alloc, setup, limit) else {
-        return end_without_guard(alloc, out);
+        return end_without_guard(alloc, &mut streams.out);
     };
-    match retell_lines(alloc, &mut guard, reader, out) {
+    match retell_lines(alloc, &mut guard, streams) {
         Ok(replayed) => quietly(alloc, Ok(status_of(replayed.verdict()))),
         Err(stop) => quietly(alloc, Err(stop)),
     }

@@ -1,13 +1,13 @@
 //! The setup file of `--setup`, and the setup where none is given.
 
-ghost use Rattle.std.specs.Prelude.{◌≡◌, ◌≢◌, ◌⊎◌, ◌<◌, ◌≤◌, codes, length, true, IfOk, IfErr, OnErr, OnOk, string_bytes};
+ghost use Rattle.std.specs.Prelude.{◌≡◌, ◌≢◌, ◌⊎◌, ◌<◌, ◌≤◌, codes, length, true, IfOk, IfErr, IfSome, OnErr, OnOk, string_bytes};
 ghost use Rattle.std.specs.IoError.{error_kind};
 ghost use Rattle.std.specs.declared.io.ErrorKind.TheVariants.{OutOfMemory};
 ghost use Rattle.jg_fault_text.specs.Setups.{TellsSetup};
 ghost use Rattle.jg_policy.specs.declared.fault.SetupFault.TheVariants.{NoMemory, TooMany};
 ghost use Rattle.jg_program.specs.declared.stop.ProgramStop.TheVariants.{Setup as Faulty, SetupRead};
 ghost use Rattle.jg_program.specs.Ended.{EndsRefused};
-ghost use Rattle.jg_program.specs.Reported.{EndsTelling, IsToldIf};
+ghost use Rattle.jg_program.specs.Reported.{EndsQuietly, EndsTelling, IsToldIf};
 ghost use Rattle.jg_program.specs.StatedBy.{base_setup, Gives, IsFront, IsStated};
 
 use crate::stop::{ProgramEnd, ProgramStop, quietly, saying};
@@ -25,7 +25,7 @@ const CLOSED_SETUP: &str = "version = 1\nillegal_native_access = \"deny\"\n";
 const MAX_BYTES: u64 = 16_777_216;
 
 /// The setup where no `--setup` is given, read from its text. Fails only for want of memory.
-pub fn closed_setup(alloc: Global) -> Result<Setup, SetupFault>
+fn closed_setup(alloc: Global) -> Result<Setup, SetupFault>
     ensures stated { IfOk result (λ setup. setup ≡ base_setup) }
     ensures memory { IfErr result (λ fault. fault ≡ NoMemory) }
 {
@@ -113,6 +113,32 @@ pub fn read_setup<F: Read>(
     match Setup::read(alloc, text.as_str()) {
         Ok(setup) => Ok(setup),
         Err(fault) => Err(end_faulty(alloc, explained, text.as_bytes(), fault)),
+    }
+}
+
+/// The setup of the file that is given, of which the system told the length, or the closed one where none is; or how the
+/// program ends without it. The file is closed then.
+pub fn setup_of<F: Read + Drop>(
+    alloc: Global,
+    explained: bool,
+    given: Option<(F, u64)>,
+) -> Result<Setup, ProgramEnd>
+    ensures closed { given ≡ None → IfOk result (λ setup. setup ≡ base_setup) }
+    ensures memory { given ≡ None → IfErr result (EndsQuietly (Faulty NoMemory)) }
+    ensures stated { IfSome given (λ file. IfOk result (IsStated (F.remaining file.0))) }
+    ensures refused { IfSome given (λ file. IfErr result (EndsRefused explained (F.remaining file.0) file.1)) }
+{
+    match given {
+        None => match closed_setup(alloc) {
+            Ok(setup) => Ok(setup),
+            Err(fault) => Err(quietly(alloc, Err(ProgramStop::Setup(fault)))),
+        },
+        Some((mut file, told)) => {
+            let read = read_setup(alloc, explained, &mut file, told);
+            // Else its number could be that of a standard input that was closed.
+            drop(file);
+            read
+        }
     }
 }
 

@@ -11,8 +11,8 @@ settle_play-requires g c =
     let new = c.play.new.workers in
     let lent = c.as_mut_slice.ensures.value in
     let same : length new ≡ length old = omega (arith, c.play.auto.workers, ap (λ (ws : List Work). length ws) lent) in
-    let ran = subst (λ (ws : List Work). EachRan c.args.turns ws new) lent c.play.ensures in
-    subst AreApart (sym (kept c.in-Ok.workers.len old new (omega (arith, c.in-Ok.workers.ok)) same)) (still_apart c.args.turns old new same ran c.in-Ok.ensures.apart)
+    let ran = subst (λ (ws : List Work). EachRan c.args.terms.turns ws new) lent c.play.ensures in
+    subst AreApart (sym (kept c.in-Ok.workers.len old new (omega (arith, c.in-Ok.workers.ok)) same)) (still_apart c.args.terms.turns old new same ran c.in-Ok.ensures.apart)
 
 pub returns-clause-plays : goal.returns-clause-plays
 returns-clause-plays g c =
@@ -20,10 +20,10 @@ returns-clause-plays g c =
     let new = c.play.new.workers in
     let lent = c.as_mut_slice.ensures.value in
     let same : length new ≡ length old = omega (arith, c.play.auto.workers, ap (λ (ws : List Work). length ws) lent) in
-    let ran = subst (λ (ws : List Work). EachRan c.args.turns ws new) lent c.play.ensures in
+    let ran = subst (λ (ws : List Work). EachRan c.args.terms.turns ws new) lent c.play.ensures in
     inl (
       _,
-      subst (λ (ws : List Work). HaveRun c.args.turns c.args.scripts ws) (sym (kept c.in-Ok.workers.len old new (omega (arith, c.in-Ok.workers.ok)) same))
-          (have_run c.args.turns c.args.scripts old new c.in-Ok.ensures.workers ran),
+      subst (λ (ws : List Work). HaveRun c.args.terms.turns c.args.scripts ws) (sym (kept c.in-Ok.workers.len old new (omega (arith, c.in-Ok.workers.ok)) same))
+          (have_run c.args.terms.turns c.args.scripts old new c.in-Ok.ensures.workers ran),
       c.settle_play.ensures.settles,
     )
