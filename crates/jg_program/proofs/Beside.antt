@@ -44,9 +44,12 @@ lost_advised r x true s h text refused stands lost none = by (lost none)
     by (inr some) = some_advised r x s h (stands refl) some
 
 -- what a log tells is the advice that is asked for
-pub advice_said : (A : Type 0) (beside : Option (GuardAdviser A)) (x : GuardAdviser A) (begun : Bool) (result : Option (String Global)) → beside ≡ Some x → begun ≡ true
-    → IfSome result (λ text. (s : StatedSetup) (h : List Entry) → Logged x.log s h → (moments : List Moment) × AreMoments s h moments × Advises x.log.adviser.most x.log.noting.all moments (string_bytes text))
-    → IfSome result (λ text. (begun ≡ true) × ((r : Reporting) (s : StatedSetup) (h : List Entry) → StandsBeside r beside s h → SaysAdvice r s h (string_bytes text)))
+pub advice_said : (A : Type 0) (beside : Option (GuardAdviser A)) (x : GuardAdviser A) (begun : Bool) (result : Option (String Global)) → beside ≡ Some x
+    → begun ≡ true
+    → IfSome result (λ text. (s : StatedSetup) (h : List Entry) → Logged x.log s h
+    → (moments : List Moment) × AreMoments s h moments × Advises x.log.adviser.most x.log.noting.all moments (string_bytes text))
+    → IfSome result (λ text. (begun ≡ true)
+    × ((r : Reporting) (s : StatedSetup) (h : List Entry) → StandsBeside r beside s h → SaysAdvice r s h (string_bytes text)))
 advice_said A beside x begun None is so said = tt
 advice_said A beside x begun (Some text) is so said = (
   so,

@@ -26,7 +26,8 @@ unfolding toml_on_literals
 parsed = refl
 
 pub closed_states : (r : Result StatedSetup SetupFault)
-    → IfOk r (λ setup. (tree : Members) × (parse_document closed_text ≡ Some tree) × (tree_faults tree ≡ []) × (setup ≡ setup_stated tree)) → IfOk r (λ setup. setup ≡ base_setup)
+    → IfOk r (λ setup. (tree : Members) × (parse_document closed_text ≡ Some tree) × (tree_faults tree ≡ []) × (setup ≡ setup_stated tree))
+    → IfOk r (λ setup. setup ≡ base_setup)
 closed_states (Ok setup) (tree, is, clean, stated) = stated ∙ ap setup_stated (same_Some _ _ (sym is ∙ parsed))
 closed_states (Err fault) told = tt
 
@@ -56,8 +57,10 @@ none_but_memory : (fault : SetupFault) → (fault ≡ NoMemory) ⊎ (fault ≢ N
 none_but_memory fault (inl memory) found = memory
 none_but_memory fault (inr other) found = absurd (nothing_first fault (found other))
 
-pub closed_is_faultless : (r : Result StatedSetup SetupFault) → IfErr r (λ fault. fault ≢ NoMemory → IsFirstFault (text_faults_of (parse_document closed_text)) fault)
+pub closed_is_faultless : (r : Result StatedSetup SetupFault)
+    → IfErr r (λ fault. fault ≢ NoMemory → IsFirstFault (text_faults_of (parse_document closed_text)) fault)
     → IfErr r (λ fault. fault ≡ NoMemory)
 closed_is_faultless (Ok setup) found = tt
 closed_is_faultless (Err fault) found =
-    none_but_memory fault (memory_or_not fault) (subst (λ (faults : List SetupFault). fault ≢ NoMemory → IsFirstFault faults fault) (ap text_faults_of parsed ∙ faultless) found)
+    none_but_memory fault (memory_or_not fault)
+    (subst (λ (faults : List SetupFault). fault ≢ NoMemory → IsFirstFault faults fault) (ap text_faults_of parsed ∙ faultless) found)

@@ -9,7 +9,8 @@ nothing_before None = refl
 nothing_before (Some bytes) = refl
 
 -- has all of its file left
-pub from_start : {F A : Type 0} (remaining : F → Option (List ℕ)) (r : BufReader F A) (file : F) → reader_capacity r ≡ 65536 → reader_buffer r ≡ [] → reader_inner r ≡ file
+pub from_start : {F A : Type 0} (remaining : F → Option (List ℕ)) (r : BufReader F A) (file : F) → reader_capacity r ≡ 65536 → reader_buffer r ≡ []
+    → reader_inner r ≡ file
     → reader_remaining remaining r ≡ remaining file
 from_start remaining r file capacity empty inner =
     ap (λ (n : ℕ). if n == 0 then None else prepend_known (reader_buffer r) (remaining (reader_inner r))) capacity

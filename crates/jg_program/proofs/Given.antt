@@ -18,16 +18,19 @@ use Rattle.jg_program.proofs.Refusals.{refusal_on}
 -- this job was done under this setup
 done_under : (job it : Job) (r : Reporting) (setup : StatedSetup) (input input' bytes bytes' : Option (List ℕ)) (limit : ℕ) (ending : ProgramEnd)
     → job ≡ it → Ends it r setup input input' bytes bytes' limit ending → Ends job r setup input input' bytes bytes' limit ending
-done_under job it r setup input input' bytes bytes' limit ending is ends = subst (λ (j : Job). Ends j r setup input input' bytes bytes' limit ending) (sym is) ends
+done_under job it r setup input input' bytes bytes' limit ending is ends =
+    subst (λ (j : Job). Ends j r setup input input' bytes bytes' limit ending) (sym is) ends
 
 -- it is the closed one
 pub done_closed : (job it : Job) (r : Reporting) (setup : StatedSetup) (input input' bytes bytes' : Option (List ℕ)) (limit : ℕ) (ending : ProgramEnd)
     → setup ≡ base_setup → job ≡ it → Ends it r setup input input' bytes bytes' limit ending → EndsClosed job r input input' bytes bytes' limit ending
 done_closed job it r setup input input' bytes bytes' limit ending closed is ends =
-    inl (subst (λ (s : StatedSetup). Ends job r s input input' bytes bytes' limit ending) closed (done_under job it r setup input input' bytes bytes' limit ending is ends))
+    inl (subst (λ (s : StatedSetup). Ends job r s input input' bytes bytes' limit ending) closed
+    (done_under job it r setup input input' bytes bytes' limit ending is ends))
 
 -- it is that of the file
-pub done_stated : {F : Type 0} (remaining : F → Option (List ℕ)) (given : Option (F × ℕ)) (job it : Job) (r : Reporting) (setup : StatedSetup) (input input' bytes bytes' : Option (List ℕ)) (limit : ℕ)
+pub done_stated : {F : Type 0} (remaining : F → Option (List ℕ)) (given : Option (F × ℕ)) (job it : Job) (r : Reporting) (setup : StatedSetup)
+    (input input' bytes bytes' : Option (List ℕ)) (limit : ℕ)
     (ending : ProgramEnd)
     → IfSome given (λ file. IsStated (remaining file.0) setup) → job ≡ it → Ends it r setup input input' bytes bytes' limit ending
     → IfSome given (λ file. EndsUnder job r (remaining file.0) file.1 input input' bytes bytes' limit ending)
@@ -36,8 +39,10 @@ done_stated remaining (Some file) job it r setup input input' bytes bytes' limit
     inl (setup, stated, done_under job it r setup input input' bytes bytes' limit ending is ends)
 
 -- the file is refused
-pub refused_under : {F : Type 0} (remaining : F → Option (List ℕ)) (given : Option (F × ℕ)) (job : Job) (r : Reporting) (input bytes : Option (List ℕ)) (limit : ℕ) (ending : ProgramEnd)
-    → IfSome given (λ file. EndsRefused (is_explained r) (remaining file.0) file.1 ending) → IfSome given (λ file. EndsUnder job r (remaining file.0) file.1 input input bytes bytes limit ending)
+pub refused_under : {F : Type 0} (remaining : F → Option (List ℕ)) (given : Option (F × ℕ)) (job : Job) (r : Reporting) (input bytes : Option (List ℕ))
+    (limit : ℕ) (ending : ProgramEnd)
+    → IfSome given (λ file. EndsRefused (is_explained r) (remaining file.0) file.1 ending)
+    → IfSome given (λ file. EndsUnder job r (remaining file.0) file.1 input input bytes bytes limit ending)
 refused_under remaining None job r input bytes limit ending refused = tt
 refused_under remaining (Some file) job r input bytes limit ending refused = inr (refused, Keeps-refl _, Keeps-refl _)
 
@@ -47,4 +52,5 @@ pub unset_on : {F : Type 0} (remaining : F → Option (List ℕ)) (given : Optio
     → IsHandedOn {S = Status} holds_nothing failed ending.ended
 unset_on remaining None holds_nothing failed explained ending memory refused =
     subst (λ (e : Result Status ProgramStop). IsHandedOn holds_nothing failed e) (sym (memory refl).0) tt
-unset_on remaining (Some file) holds_nothing failed explained ending memory refused = refusal_on holds_nothing failed explained (remaining file.0) file.1 ending refused
+unset_on remaining (Some file) holds_nothing failed explained ending memory refused =
+    refusal_on holds_nothing failed explained (remaining file.0) file.1 ending refused

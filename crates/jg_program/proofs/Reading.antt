@@ -28,10 +28,12 @@ failed known told stop (inr memory) = (unwrap_or known [], gives_known known, in
 pub of_take : {R : Type 0} (remaining : R → Option (List ℕ)) (t : Take R) (r : R) (old bytes : List ℕ) → take_limit t ≡ 16777217 → take_inner t ≡ r → old ≡ []
     → IfSome (take_remaining remaining t) (λ front. bytes ≡ old ++ front) → IsFront (remaining r) bytes
 of_take {R = R} remaining t r old bytes limit inner none gives =
-    front_of (remaining r) old bytes none (subst (λ (o : Option (List ℕ)). IfSome o (λ front. bytes ≡ old ++ front)) (ap (λ (n : ℕ). option_map (take n) (remaining t.inner)) limit ∙
+    front_of (remaining r) old bytes none
+    (subst (λ (o : Option (List ℕ)). IfSome o (λ front. bytes ≡ old ++ front)) (ap (λ (n : ℕ). option_map (take n) (remaining t.inner)) limit ∙
     ap (λ (x : R). option_map (take 16777217) (remaining x)) inner) gives)
   where
-    front_of : (known : Option (List ℕ)) (old bytes : List ℕ) → old ≡ [] → IfSome (option_map (take 16777217) known) (λ front. bytes ≡ old ++ front) → IsFront known bytes
+    front_of : (known : Option (List ℕ)) (old bytes : List ℕ) → old ≡ [] → IfSome (option_map (take 16777217) known) (λ front. bytes ≡ old ++ front)
+        → IsFront known bytes
     front_of None old bytes none gives = tt
     front_of (Some known) old bytes none gives = gives ∙ ap (λ (xs : List ℕ). xs ++ take 16777217 known) none
 
@@ -46,7 +48,8 @@ pub gives_all : (known : Option (List ℕ)) (bytes : List ℕ) → IsFront known
 gives_all None bytes front short = tt
 gives_all (Some known) bytes front short = front ∙ take_all 16777217 known (let read = length_of_front known bytes front in omega arith)
 
-pub no_text : (known : Option (List ℕ)) (told : ℕ) (bytes : List ℕ) → IsFront known bytes → told ≤ 16777216 → length bytes ≤ 16777216 → ¬ IsUtf8 bytes → IsRefused known told (Setup NotToml)
+pub no_text : (known : Option (List ℕ)) (told : ℕ) (bytes : List ℕ) → IsFront known bytes → told ≤ 16777216 → length bytes ≤ 16777216 → ¬ IsUtf8 bytes
+    → IsRefused known told (Setup NotToml)
 no_text known told bytes front low short no_utf8 = (bytes, gives_all known bytes front short, inl (inr (inr (inr (refl, low, short, no_utf8)))))
 
 -- the first fault of the text, unless memory ran out

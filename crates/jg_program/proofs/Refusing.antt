@@ -28,7 +28,8 @@ refused_by_setup known told stop (bytes, gives, inl (inr (inr (inl (long, by))))
 refused_by_setup known told stop (bytes, gives, inl (inr (inr (inr (no_text, low, short, not_utf8))))) = ap is_of_setup no_text
 refused_by_setup known told stop (bytes, gives, inr (fault, is, low, short, first)) = ap is_of_setup is
 
-pub migrates_refused : (known : Option (List ℕ)) (told : ℕ) (bytes : Option (List ℕ)) (stop : ProgramStop) → IsRefused known told stop → Migrates known told bytes bytes (Err stop)
+pub migrates_refused : (known : Option (List ℕ)) (told : ℕ) (bytes : Option (List ℕ)) (stop : ProgramStop) → IsRefused known told stop
+    → Migrates known told bytes bytes (Err stop)
 unfolding is_of_setup
 migrates_refused known told bytes (Setup fault) refused = (refused, Keeps-refl bytes)
 migrates_refused known told bytes SetupRead refused = Keeps-refl bytes

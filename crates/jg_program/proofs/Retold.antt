@@ -21,11 +21,17 @@ use Rattle.jg_program.specs.Retold.{EndsFacts, RetellsLines, SaysRead, TellsLine
 use Rattle.jg_program.specs.Verdicts.{difference_text, status_told}
 
 -- the journal was read so, its record was written, and that was said of it
-pub read_told : (s : StatedSetup) (limit : ℕ) (h : List Entry) (input input' bytes mid bytes' : Option (List ℕ)) (read : Result Replayed RunFault) (told : Result Replayed ProgramStop)
+pub read_told : (s : StatedSetup) (limit : ℕ) (h : List Entry) (input input' bytes mid bytes' : Option (List ℕ)) (read : Result Replayed RunFault)
+    (told : Result Replayed ProgramStop)
     → RetellsJournal input input' s limit bytes mid read → SaysRead read mid bytes' told → TellsLines input input' bytes bytes' s limit h told
-read_told s limit h input input' bytes mid bytes' read (Ok replayed) retells said = (mid, subst (RetellsJournal input input' s limit bytes mid) said.0 retells, said.1)
-read_told s limit h input input' bytes mid bytes' read (Err stop) retells (inl (fault, is, stop_is, same)) =
-    (fault, stop_is, inl (subst (λ (b : Option (List ℕ)). RetellsJournal input input' s limit bytes b (Err fault)) (sym same) (subst (RetellsJournal input input' s limit bytes mid) is retells)))
+read_told s limit h input input' bytes mid bytes' read (Ok replayed) retells said =
+    (mid, subst (RetellsJournal input input' s limit bytes mid) said.0 retells, said.1)
+read_told s limit h input input' bytes mid bytes' read (Err stop) retells (inl (fault, is, stop_is, same)) = (
+  fault,
+  stop_is,
+  inl (subst (λ (b : Option (List ℕ)). RetellsJournal input input' s limit bytes b (Err fault)) (sym same)
+      (subst (RetellsJournal input input' s limit bytes mid) is retells)),
+)
 read_told s limit h input input' bytes mid bytes' read (Err stop) retells (inr (replayed, line, is, differs, stop_is)) =
     (Write line, stop_is, inr (inr (replayed, line, mid, subst (RetellsJournal input input' s limit bytes mid) is retells, differs, refl)))
 
@@ -41,7 +47,8 @@ pub differs_behind : (bytes bytes' : Option (List ℕ)) (v : Verdict) (line : �
 differs_behind bytes bytes' v line told differs is appends = subst (λ (w : Verdict). Appends bytes bytes' (text_behind w)) (sym differs ∙ is) appends
 
 -- no fault of a reading is one of the writer
-fault_read : (s : StatedSetup) (limit : ℕ) (input input' bytes mid : Option (List ℕ)) (failed : Bool) (fault : RunFault) → RetellsJournal input input' s limit bytes mid (Err fault)
+fault_read : (s : StatedSetup) (limit : ℕ) (input input' bytes mid : Option (List ℕ)) (failed : Bool) (fault : RunFault)
+    → RetellsJournal input input' s limit bytes mid (Err fault)
     → IsHandedOn {S = Replayed} (Unit {0}) failed (Err (Run fault))
 fault_read s limit input input' bytes mid failed (Write line) (g, is, finds, writes) = absurd finds
 fault_read s limit input input' bytes mid failed (Script line fault) retells = tt
@@ -49,8 +56,10 @@ fault_read s limit input input' bytes mid failed (Limit line) retells = tt
 fault_read s limit input input' bytes mid failed (NoMemory line) retells = tt
 fault_read s limit input input' bytes mid failed (Read line) retells = tt
 
-pub read_on : (s : StatedSetup) (limit : ℕ) (input input' bytes mid bytes' : Option (List ℕ)) (failed : Bool) (read : Result Replayed RunFault) (told : Result Replayed ProgramStop)
-    → RetellsJournal input input' s limit bytes mid read → SaysRead read mid bytes' told → (IsOk read → IsHandedOn (Unit {0}) failed told) → IsHandedOn (Unit {0}) failed told
+pub read_on : (s : StatedSetup) (limit : ℕ) (input input' bytes mid bytes' : Option (List ℕ)) (failed : Bool) (read : Result Replayed RunFault)
+    (told : Result Replayed ProgramStop)
+    → RetellsJournal input input' s limit bytes mid read → SaysRead read mid bytes' told → (IsOk read → IsHandedOn (Unit {0}) failed told)
+    → IsHandedOn (Unit {0}) failed told
 read_on s limit input input' bytes mid bytes' failed read (Ok replayed) retells said ok = tt
 read_on s limit input input' bytes mid bytes' failed read (Err stop) retells (inl (fault, is, stop_is, same)) ok =
     subst (λ (e : ProgramStop). IsHandedOn {S = Replayed} (Unit {0}) failed (Err e)) (sym stop_is)
@@ -59,14 +68,16 @@ read_on s limit input input' bytes mid bytes' failed read (Err stop) retells (in
     ok (subst (λ (r : Result Replayed RunFault). IsOk r) (sym is) refl)
 
 -- a journal was retold by a guard of this setup and limit
-pub ends_facts : (setup own : StatedSetup) (limit most : ℕ) (input input' bytes bytes' : Option (List ℕ)) (h : List Entry) (result : Result Replayed ProgramStop) (ending : ProgramEnd)
+pub ends_facts : (setup own : StatedSetup) (limit most : ℕ) (input input' bytes bytes' : Option (List ℕ)) (h : List Entry)
+    (result : Result Replayed ProgramStop) (ending : ProgramEnd)
     → own ≡ setup → most ≡ limit → RetellsLines input input' bytes bytes' own most h result → ending.ended ≡ status_told result → said_text ending.said ≡ []
     → EndsFacts setup input input' bytes bytes' limit ending
 ends_facts setup own limit most input input' bytes bytes' h result ending same full retells ended said =
     inl (
       h,
       result,
-      subst (λ (l : ℕ). RetellsLines input input' bytes bytes' setup l h result) full (subst (λ (s : StatedSetup). RetellsLines input input' bytes bytes' s most h result) same retells),
+      subst (λ (l : ℕ). RetellsLines input input' bytes bytes' setup l h result) full
+          (subst (λ (s : StatedSetup). RetellsLines input input' bytes bytes' s most h result) same retells),
       ended,
       said,
     )

@@ -20,8 +20,10 @@ difference_written a b c d line (Ok done) first number last = Appends-trans a c 
 difference_written a b c d line (Err fault) first number last = tt
 
 -- the text of the setup that a file states was said, or couldn't be
-pub migrates_said : (known : Option (List ℕ)) (told : ℕ) (bytes mid bytes' : Option (List ℕ)) (setup : StatedSetup) (text : List ℕ) (failed : Bool) (said : Result Status ProgramStop)
-    → IsStated known setup → States text setup → IfOk said (λ status. (status ≡ Done) × Appends bytes mid text) → IfErr said (λ stop. (stop ≡ Run (Write 1)) × (failed ≡ true))
+pub migrates_said : (known : Option (List ℕ)) (told : ℕ) (bytes mid bytes' : Option (List ℕ)) (setup : StatedSetup) (text : List ℕ) (failed : Bool)
+    (said : Result Status ProgramStop)
+    → IsStated known setup → States text setup → IfOk said (λ status. (status ≡ Done) × Appends bytes mid text)
+    → IfErr said (λ stop. (stop ≡ Run (Write 1)) × (failed ≡ true))
     → Keeps mid bytes' → Migrates known told bytes bytes' said
 migrates_said known told bytes mid bytes' setup text failed (Ok status) stated states done none kept =
     (done.0, setup, stated, (text, states, Appends-kept _ _ _ _ done.1 kept))

@@ -33,7 +33,8 @@ unwritten tid at guard bytes bytes' (Record other) handed = absurd handed
 
 -- the difference is a true one
 settled : (workers : List Work) (tid : Tid) (at : ℕ) (guard : State) (bytes bytes' : Option (List ℕ)) (result : Result Status ProgramStop)
-    → IsWrongReceipt guard.journal workers tid at ⊎ IsUntoldEntry guard.journal workers tid at → TellsDifference tid at guard bytes bytes' result → SettlesBy guard workers bytes bytes' result
+    → IsWrongReceipt guard.journal workers tid at ⊎ IsUntoldEntry guard.journal workers tid at → TellsDifference tid at guard bytes bytes' result
+    → SettlesBy guard workers bytes bytes' result
 settled workers tid at guard bytes bytes' (Ok status) differs told = absurd told
 settled workers tid at guard bytes bytes' (Err (Run fault)) differs told = told
 settled workers tid at guard bytes bytes' (Err (Setup fault)) differs told = absurd told
@@ -48,10 +49,12 @@ settled workers tid at guard bytes bytes' (Err (Mismatch thread place)) differs 
     (tid, told.0, subst (λ (p : ℕ). IsWrongReceipt guard.journal workers tid p ⊎ IsUntoldEntry guard.journal workers tid p) (sym told.1) differs, told.2)
 
 -- the same of what the comparison answered, and of what is told then
-pub settled_by : {L : Type 0} (workers : List Work) (fault : FinishFault L) (tid : Tid) (at : ℕ) (back : Finished L) (r : Reporting) (bytes bytes' : Option (List ℕ))
+pub settled_by : {L : Type 0} (workers : List Work) (fault : FinishFault L) (tid : Tid) (at : ℕ) (back : Finished L) (r : Reporting)
+    (bytes bytes' : Option (List ℕ))
     (result : Result Status ProgramStop)
     (ending : ProgramEnd) → fault ≡ Differs tid at back → Legal (back_of fault).guard.setup (back_of fault).guard.journal → IsFirstDifference workers fault
-    → TellsDifference tid at back.guard bytes bytes' result → Reports (λ about. about ≡ []) r back.guard.setup back.guard.journal result ending → Settles r workers bytes bytes' ending
+    → TellsDifference tid at back.guard bytes bytes' result → Reports (λ about. about ≡ []) r back.guard.setup back.guard.journal result ending
+    → Settles r workers bytes bytes' ending
 settled_by {L} workers fault tid at back r bytes bytes' result ending is legal differs told reports = (
   back.guard,
   subst (λ (f : FinishFault L). Legal (back_of f).guard.setup (back_of f).guard.journal) is legal,

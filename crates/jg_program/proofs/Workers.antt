@@ -18,5 +18,6 @@ first_stop-next workers i w within is =
 pub have_run : (turns : ℕ) (scripts : List Lines) (old new : List Work) → old ≡ map fresh scripts → EachRan turns old new → HaveRun turns scripts new
 have_run turns scripts old new made ran i script worker within =
     let inside : i < length old = omega (arith, ap (λ (ws : List Work). length ws) made, length-map scripts fresh, within) in
-    let was : get_or old i worker ≡ fresh (get_or scripts i script) = ap (λ (ws : List Work). get_or ws i worker) made ∙ get_or-map fresh scripts i script worker within in
+    let was : get_or old i worker ≡ fresh (get_or scripts i script) =
+    ap (λ (ws : List Work). get_or ws i worker) made ∙ get_or-map fresh scripts i script worker within in
     subst (λ (w : Work). Ran turns w (get_or new i worker)) was (ran i worker inside)

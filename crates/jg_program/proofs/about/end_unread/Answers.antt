@@ -7,5 +7,6 @@ use Rattle.jg_program.proofs.about.end_unread.Goals as goal
 
 pub returns : goal.returns
 returns c =
-    ends_saying string_bytes c.args.explained (IsAboutScript c.args.line.now (Err (Run c.args.fault))) (Run c.args.fault) c.script_fault_text.result c.saying.result c.saying.ensures.ended
+    ends_saying string_bytes c.args.explained (IsAboutScript c.args.line.now (Err (Run c.args.fault))) (Run c.args.fault) c.script_fault_text.result
+    c.saying.result c.saying.ensures.ended
     c.saying.ensures.said c.saying.ensures.memory c.script_fault_text.ensures.told c.script_fault_text.ensures.refused

@@ -21,27 +21,34 @@ returns-in-Ok-tested-clause-ends g c =
     let told = c.in-Ok-tested.replayed in
     let guard = c.test_lines-tested.new.guard in
     let status = c.status_of-status.ensures ∙ ap verdict_status c.verdict.ensures in
-    let reports = subst (λ (s : Status). Reports (IsAboutJournal (Ok told)) c.args.terms.reporting guard.setup guard.journal (Ok s) c.report.result) status c.report.ensures in
-    ends_journal c.args.terms.reporting c.args.setup c.in-Ok.guard.setup guard.setup c.args.terms.limit c.in-Ok.guard.limit _ _ _ _ guard.journal c.test_lines-tested.new.line.items (Ok told) c.report.result
-    c.in-Ok.ensures.setup (c.test_lines-tested.ensures.setup ∙ c.in-Ok.ensures.setup) c.in-Ok.ensures.limit c.test_lines-tested.ensures.legal c.in-Ok-tested.ensures.tests reports
+    let reports = subst (λ (s : Status). Reports (IsAboutJournal (Ok told)) c.args.terms.reporting guard.setup guard.journal (Ok s) c.report.result) status
+    c.report.ensures in
+    ends_journal c.args.terms.reporting c.args.setup c.in-Ok.guard.setup guard.setup c.args.terms.limit c.in-Ok.guard.limit _ _ _ _ guard.journal
+    c.test_lines-tested.new.line.items (Ok told) c.report.result
+    c.in-Ok.ensures.setup (c.test_lines-tested.ensures.setup ∙ c.in-Ok.ensures.setup) c.in-Ok.ensures.limit c.test_lines-tested.ensures.legal
+    c.in-Ok-tested.ensures.tests reports
 
 pub returns-clause-ends : goal.returns-clause-ends
 returns-clause-ends g c =
     let guard = c.test_lines-tested.new.guard in
-    ends_journal c.args.terms.reporting c.args.setup c.in-Ok.guard.setup guard.setup c.args.terms.limit c.in-Ok.guard.limit _ _ _ _ guard.journal c.test_lines-tested.new.line.items (Err c.in-Err.stop)
+    ends_journal c.args.terms.reporting c.args.setup c.in-Ok.guard.setup guard.setup c.args.terms.limit c.in-Ok.guard.limit _ _ _ _ guard.journal
+    c.test_lines-tested.new.line.items (Err c.in-Err.stop)
     c.report-in-Err.result c.in-Ok.ensures.setup
-    (c.test_lines-tested.ensures.setup ∙ c.in-Ok.ensures.setup) c.in-Ok.ensures.limit c.test_lines-tested.ensures.legal c.in-Err.ensures.tests c.report-in-Err.ensures
+    (c.test_lines-tested.ensures.setup ∙ c.in-Ok.ensures.setup) c.in-Ok.ensures.limit c.test_lines-tested.ensures.legal c.in-Err.ensures.tests
+    c.report-in-Err.ensures
 
 pub returns-in-Ok-tested-clause-handed_on : goal.returns-in-Ok-tested-clause-handed_on
 returns-in-Ok-tested-clause-handed_on g c =
     let guard = c.test_lines-tested.new.guard in
-    reported_on (g.W.HandsOn.holds_nothing c.test_lines-tested.new.streams.out.device) c.test_lines-tested.new.streams.out.failed (IsAboutJournal (Ok c.in-Ok-tested.replayed)) c.args.terms.reporting guard.setup guard.journal (Ok c.status_of-status.result) c.report.result
+    reported_on (g.W.HandsOn.holds_nothing c.test_lines-tested.new.streams.out.device) c.test_lines-tested.new.streams.out.failed
+    (IsAboutJournal (Ok c.in-Ok-tested.replayed)) c.args.terms.reporting guard.setup guard.journal (Ok c.status_of-status.result) c.report.result
     c.report.ensures c.in-Ok-tested.ensures.handed_on
 
 pub returns-clause-handed_on : goal.returns-clause-handed_on
 returns-clause-handed_on g c =
     let guard = c.test_lines-tested.new.guard in
-    reported_on _ c.test_lines-tested.new.streams.out.failed (λ (about : List ℕ). about ≡ []) c.args.terms.reporting guard.setup guard.journal (Err c.in-Err.stop) c.report-in-Err.result c.report-in-Err.ensures
+    reported_on _ c.test_lines-tested.new.streams.out.failed (λ (about : List ℕ). about ≡ []) c.args.terms.reporting guard.setup guard.journal
+    (Err c.in-Err.stop) c.report-in-Err.result c.report-in-Err.ensures
     (on_err Replayed Status _ _ c.in-Err.stop c.in-Err.ensures.handed_on)
 
 pub report-requires : goal.report-requires
@@ -52,7 +59,8 @@ report-requires g c =
     λ begun. c.test_lines-tested.ensures.beside r (c.begin_advising-beside.ensures.stands begun c.in-Ok.guard.setup) in
     record {
       said = IfSome_then c.advice_of-advised.result c.advice_of-advised.ensures.said (λ text both. both.1 r guard.setup guard.journal (stands both.0));
-      lost = lost_advised r c.test_lines-tested.new.beside c.begin_advising-beside.result.1 guard.setup guard.journal c.advice_of-advised.result c.begin_advising-beside.ensures.refused stands
+      lost = lost_advised r c.test_lines-tested.new.beside c.begin_advising-beside.result.1 guard.setup guard.journal c.advice_of-advised.result
+          c.begin_advising-beside.ensures.refused stands
           c.advice_of-advised.ensures.lost;
     }
 
@@ -67,5 +75,6 @@ pub report-requires-in-Err-clause-lost : goal.report-requires-in-Err-clause-lost
 report-requires-in-Err-clause-lost g c =
     let r = c.args.terms.reporting in
     let guard = c.test_lines-tested.new.guard in
-    lost_advised r c.test_lines-tested.new.beside c.begin_advising-beside.result.1 guard.setup guard.journal c.advice_of-advised.result c.begin_advising-beside.ensures.refused
+    lost_advised r c.test_lines-tested.new.beside c.begin_advising-beside.result.1 guard.setup guard.journal c.advice_of-advised.result
+    c.begin_advising-beside.ensures.refused
     (λ begun. c.test_lines-tested.ensures.beside r (c.begin_advising-beside.ensures.stands begun c.in-Ok.guard.setup)) c.advice_of-advised.ensures.lost

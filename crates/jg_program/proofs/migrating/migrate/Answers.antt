@@ -9,5 +9,6 @@ pub returns-in-Ok-flush-clause-ends : goal.returns-in-Ok-flush-clause-ends
 returns-in-Ok-flush-clause-ends g c =
     let states = rw (← c.as_str.ensures.value) at c.in-Ok-text_of.ensures.stated in
     migrates_said (g.F.Read.remaining c.args.file.now) c.args.told (g.W.Write.contents c.args.out.now.device) (g.W.Write.contents c.say-said.new.out.device)
-    (g.W.Write.contents c.flush.new.self.device) c.in-Ok.setup c.as_str.result.now c.say-said.new.out.failed c.say-said.result c.in-Ok.ensures.stated states c.say-said.ensures.said
+    (g.W.Write.contents c.flush.new.self.device) c.in-Ok.setup c.as_str.result.now c.say-said.new.out.failed c.say-said.result c.in-Ok.ensures.stated states
+    c.say-said.ensures.said
     c.say-said.ensures.failed c.flush.ensures.kept

@@ -5,5 +5,6 @@ use Rattle.jg_program.proofs.playing.end_different.Goals as goal
 pub returns-clause-handed_on : goal.returns-clause-handed_on
 returns-clause-handed_on g c =
     let guard = c.args.back.guard in
-    reported_on _ c.hand_out_different-ended.new.out.failed (λ (about : List ℕ). about ≡ []) c.args.reporting guard.setup guard.journal c.hand_out_different-ended.result c.report.result
+    reported_on _ c.hand_out_different-ended.new.out.failed (λ (about : List ℕ). about ≡ []) c.args.reporting guard.setup guard.journal
+    c.hand_out_different-ended.result c.report.result
     c.report.ensures c.hand_out_different-ended.ensures.handed_on

@@ -11,6 +11,7 @@ returns-in-Ok g c = record { ends = (c.scripts_in.new.line.items, inl (c.in-Ok.s
 pub returns-in-Err : goal.returns-in-Err
 returns-in-Err g c =
     let fault = c.in-Err.fault in
-    let told = subst (λ (line : List ℕ). EndsTelling (is_explained c.args.terms.reporting) (IsAboutScript line (Err (Run fault))) (Run fault) c.end_unread.result) c.deref.ensures.value
+    let told = subst (λ (line : List ℕ). EndsTelling (is_explained c.args.terms.reporting) (IsAboutScript line (Err (Run fault)))
+    (Run fault) c.end_unread.result) c.deref.ensures.value
     c.end_unread.ensures in
     record { ends = (c.scripts_in.new.line.items, inr (fault, c.in-Err.ensures, told, Keeps-refl _)) }

@@ -12,7 +12,8 @@ settle_play-requires g c =
     let lent = c.as_mut_slice.ensures.value in
     let same : length new ≡ length old = omega (arith, c.play.auto.workers, ap (λ (ws : List Work). length ws) lent) in
     let ran = subst (λ (ws : List Work). EachRan c.args.terms.turns ws new) lent c.play.ensures in
-    subst AreApart (sym (kept c.in-Ok.workers.len old new (omega (arith, c.in-Ok.workers.ok)) same)) (still_apart c.args.terms.turns old new same ran c.in-Ok.ensures.apart)
+    subst AreApart (sym (kept c.in-Ok.workers.len old new (omega (arith, c.in-Ok.workers.ok)) same))
+    (still_apart c.args.terms.turns old new same ran c.in-Ok.ensures.apart)
 
 pub returns-clause-plays : goal.returns-clause-plays
 returns-clause-plays g c =

@@ -18,4 +18,5 @@ end_told-requires g c =
 pub returns-in-Err-clause-settles : goal.returns-in-Err-clause-settles
 returns-in-Err-clause-settles g c =
     let tells = c.end_different.ensures.tells in
-    settled_by c.args.workers.items c.in-Err.fault _ _ _ c.args.reporting _ _ tells.0 c.end_different.result c.parts_of-place.ensures c.in-Err.ensures.legal c.in-Err.ensures.differs tells.1 tells.2
+    settled_by c.args.workers.items c.in-Err.fault _ _ _ c.args.reporting _ _ tells.0 c.end_different.result c.parts_of-place.ensures c.in-Err.ensures.legal
+    c.in-Err.ensures.differs tells.1 tells.2

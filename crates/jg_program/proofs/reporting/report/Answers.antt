@@ -16,7 +16,8 @@ returns-in-Ok-ended c =
     let about = string_bytes c.in-Ok.text in
     let ending = c.report_done.result in
     reported (IsAbout c.args.about c.args.ended) r s h about c.args.ended ending c.in-Ok.ensures.told
-    (subst (λ (e : Result Status ProgramStop). ((explained : List ℕ) × Explains r s h explained × Tells about explained r s h e ending) ⊎ ((is_explained r || is_advised r ≡ true) × TellsNothing e ending)) (sym c.in-Ok-ended.is) c.report_done.ensures)
+    (subst (λ (e : Result Status ProgramStop). ((explained : List ℕ) × Explains r s h explained × Tells about explained r s h e ending)
+    ⊎ ((is_explained r || is_advised r ≡ true) × TellsNothing e ending)) (sym c.in-Ok-ended.is) c.report_done.ensures)
 
 pub returns-in-Ok : goal.returns-in-Ok
 returns-in-Ok c =
@@ -26,4 +27,5 @@ returns-in-Ok c =
     let about = string_bytes c.in-Ok.text in
     let ending = c.report_stopped.result in
     reported (IsAbout c.args.about c.args.ended) r s h about c.args.ended ending c.in-Ok.ensures.told
-    (subst (λ (e : Result Status ProgramStop). ((explained : List ℕ) × Explains r s h explained × Tells about explained r s h e ending) ⊎ ((is_explained r || is_advised r ≡ true) × TellsNothing e ending)) (sym c.in-Err-ended.is) c.report_stopped.ensures)
+    (subst (λ (e : Result Status ProgramStop). ((explained : List ℕ) × Explains r s h explained × Tells about explained r s h e ending)
+    ⊎ ((is_explained r || is_advised r ≡ true) × TellsNothing e ending)) (sym c.in-Err-ended.is) c.report_stopped.ensures)

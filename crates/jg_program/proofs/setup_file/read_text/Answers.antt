@@ -18,7 +18,8 @@ returns-in-Err-clause-refused g c =
 pub returns-then-len-gt-MAX_BYTES-clause-refused : goal.returns-then-len-gt-MAX_BYTES-clause-refused
 returns-then-len-gt-MAX_BYTES-clause-refused g c =
     let long : 16777216 < length c.in-Ok.bytes.items = search rules in
-    refused_as_long c.args.explained _ c.args.told c.end_too_long-then-len-gt-MAX_BYTES.result (read_long _ _ c.in-Ok.bytes.items c.in-Ok.ensures long) c.end_too_long-then-len-gt-MAX_BYTES.ensures
+    refused_as_long c.args.explained _ c.args.told c.end_too_long-then-len-gt-MAX_BYTES.result (read_long _ _ c.in-Ok.bytes.items c.in-Ok.ensures long)
+    c.end_too_long-then-len-gt-MAX_BYTES.ensures
 
 pub returns-in-Ok-from_utf8-clause-bytes : goal.returns-in-Ok-from_utf8-clause-bytes
 returns-in-Ok-from_utf8-clause-bytes g c =
@@ -32,5 +33,6 @@ returns-in-Err-from_utf8-clause-refused g c =
     let short : length c.in-Ok.bytes.items ≤ 16777216 = search rules in
     let same : c.in-Ok.bytes.items ≡ c.as_bytes.result.now = search rules in
     let gives = subst (λ (bytes : List ℕ). Gives known bytes) same (gives_all _ c.in-Ok.bytes.items c.in-Ok.ensures short) in
-    let refused = no_text _ _ c.in-Ok.bytes.items c.in-Ok.ensures c.if-told-gt-MAX_BYTES.false short (λ utf8. false≢true (c.in-Err-from_utf8.ensures.succeeds utf8)) in
+    let refused = no_text _ _ c.in-Ok.bytes.items c.in-Ok.ensures c.if-told-gt-MAX_BYTES.false short
+    (λ utf8. false≢true (c.in-Err-from_utf8.ensures.succeeds utf8)) in
     refused_for c.args.explained known c.args.told c.as_bytes.result.now NotToml c.end_faulty.result refused gives c.end_faulty.ensures
