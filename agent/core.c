@@ -447,7 +447,8 @@ int32_t core_did(jg_ticket *ticket, jg_value says, struct object *object, jg_val
         }
         return 0;
     }
-    if (is_told <= 0) {
+    /* A ticket that is refused was told already: nothing is told twice. */
+    if (is_told <= 0 || error == JG_BAD_TICKET) {
         return counted(is_told < 0 ? is_told : error);
     }
     /* The fact alone can be mended, and is told once more. */
