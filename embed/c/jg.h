@@ -342,7 +342,8 @@ int32_t jg_may(jg_core *core, uint32_t thread, const jg_value *env, uint32_t fun
  * where it hands out nothing): the local that PopLocalFrame or NativeLeave keeps its operand's object by. Where Java
  * called the native method nothing is kept: then ask NativeLeave by jg_ask, and tell jg_leaves with jg_null(). Of a
  * passed call the verdict's ticket is for jg_told alone: jg_did refuses it as JG_BAD_TICKET. As jg_ask; and
- * JG_IMPOSSIBLE, JG_FULL. Of a function that hands out something else a passed question is JG_IMPOSSIBLE.
+ * JG_IMPOSSIBLE. Of a function that hands out something else a passed question is JG_IMPOSSIBLE. Where an object is
+ * kept, also JG_FULL, and JG_NO_MEMORY for its local.
  */
 JG_MUST_USE
 int32_t jg_ending(jg_core *core, uint32_t thread, const jg_value *env, uint32_t function, const jg_value *operands,
@@ -642,8 +643,8 @@ JG_MUST_USE
 int64_t jg_error_name(int32_t number, uint8_t *text, size_t room);
 
 /*
- * Whether the bytes are modified UTF-8 (JNI Specification, chapter 3), which NewStringUTF takes: 1 or 0, or
- * JG_NO_MEMORY. The final 0 of a C string isn't one of them.
+ * Whether the bytes are modified UTF-8 (JNI Specification, chapter 3), which NewStringUTF takes: 1 or 0. The final 0 of
+ * a C string isn't one of them. It takes no memory.
  */
 JG_MUST_USE
 int32_t jg_is_utf8(const uint8_t *text, size_t size);

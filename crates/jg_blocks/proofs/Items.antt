@@ -54,7 +54,8 @@ module _ {T : Type 0} where
       ap (slice_get (x ∷ (xs ++ ys))) place ∙ behind xs ys k i (omega (arith, long))
 
   -- an item of a block, where there are so many
-  in_block : (blocks : List (List T)) (count : ℕ) (block : List T) (q r : ℕ) → AreFilled blocks count → slice_get blocks q ≡ Some block → r < 1024 → q * 1024 + r < count
+  in_block : (blocks : List (List T)) (count : ℕ) (block : List T) (q r : ℕ) → AreFilled blocks count → slice_get blocks q ≡ Some block → r < 1024
+      → q * 1024 + r < count
       → slice_get (items_of blocks) (q * 1024 + r) ≡ slice_get block r
   in_block [] count block q r filled is small within = cc
   in_block (first ∷ blocks) count block zero r filled is small within =
@@ -71,7 +72,8 @@ module _ {T : Type 0} where
       ∙ in_block blocks (count - 1024) block q r filled.1 is small (omega (arith, within))
 
   -- no item of a block, where there aren't
-  not_in_block : (blocks : List (List T)) (count : ℕ) (block : List T) (q r : ℕ) → AreFilled blocks count → slice_get blocks q ≡ Some block → r < 1024 → count ≤ q * 1024 + r
+  not_in_block : (blocks : List (List T)) (count : ℕ) (block : List T) (q r : ℕ) → AreFilled blocks count → slice_get blocks q ≡ Some block → r < 1024
+      → count ≤ q * 1024 + r
       → length block ≤ r
   not_in_block [] count block q r filled is small past = cc
   not_in_block (first ∷ blocks) count block zero r filled is small past =
@@ -81,7 +83,8 @@ module _ {T : Type 0} where
   not_in_block (first ∷ blocks) count block (suc q) r filled is small past =
       not_in_block blocks (count - 1024) block q r filled.1 is small (omega (arith, past))
 
-  found_by : (blocks : List (List T)) (count : ℕ) (block : List T) (i : ℕ) → AreFilled blocks count → slice_get blocks (i / 1024) ≡ Some block → (i < count) ⊎ (count ≤ i)
+  found_by : (blocks : List (List T)) (count : ℕ) (block : List T) (i : ℕ) → AreFilled blocks count → slice_get blocks (i / 1024) ≡ Some block
+      → (i < count) ⊎ (count ≤ i)
       → slice_get (items_of blocks) i ≡ slice_get block (i % 1024)
   found_by blocks count block i filled is (inl within) =
       ap (slice_get (items_of blocks)) (sym (div-add-mod' i 1024))
@@ -96,7 +99,8 @@ module _ {T : Type 0} where
   found blocks count block i filled is = found_by blocks count block i filled is (cases_lt i count)
 
   -- the block that is being filled isn't full
-  pub is_short : (blocks : List (List T)) (count : ℕ) (block : List T) → AreFilled blocks count → slice_get blocks (count / 1024) ≡ Some block → length block < 1024
+  pub is_short : (blocks : List (List T)) (count : ℕ) (block : List T) → AreFilled blocks count → slice_get blocks (count / 1024) ≡ Some block
+      → length block < 1024
   is_short blocks count block filled is =
       let most = not_in_block blocks count block (count / 1024) (count % 1024) filled is (omega arith) (omega arith) in
       omega (arith, most)
@@ -121,7 +125,8 @@ module _ {T : Type 0} where
   shown xs i x within value = slice_get-get_or xs i x within ∙ ap Some (sym value)
 
   -- an item more in the block that is being filled
-  filled_at : (blocks : List (List T)) (count : ℕ) (block : List T) (q r : ℕ) (x : T) → AreFilled blocks count → slice_get blocks q ≡ Some block → count ≡ q * 1024 + r → r < 1024
+  filled_at : (blocks : List (List T)) (count : ℕ) (block : List T) (q r : ℕ) (x : T) → AreFilled blocks count → slice_get blocks q ≡ Some block
+      → count ≡ q * 1024 + r → r < 1024
       → AreFilled (slice_set blocks q (block ++ x ∷ [])) (count + 1)
   filled_at [] count block q r x filled is place small = cc
   filled_at (first ∷ blocks) count block zero r x filled is place small =
@@ -132,10 +137,14 @@ module _ {T : Type 0} where
       (omega (arith, here, long, one, place, small), subst (AreFilled blocks) none filled.1)
   filled_at (first ∷ blocks) count block (suc q) r x filled is place small =
       let long = filled.0 in
-      let rest : (count - 1024) + 1 ≡ (count + 1) - 1024 = omega (arith, place) in
-      (omega (arith, long, place), subst (AreFilled (slice_set blocks q (block ++ x ∷ []))) rest (filled_at blocks (count - 1024) block q r x filled.1 is (omega (arith, place)) small))
+      let rest : (count - 1024) + 1 ≡ (count + 1) - 1024 = omega (arith, place) in (
+        omega (arith, long, place),
+        subst (AreFilled (slice_set blocks q (block ++ x ∷ []))) rest
+            (filled_at blocks (count - 1024) block q r x filled.1 is (omega (arith, place)) small),
+      )
 
-  items_at : (blocks : List (List T)) (count : ℕ) (block : List T) (q r : ℕ) (x : T) → AreFilled blocks count → slice_get blocks q ≡ Some block → count ≡ q * 1024 + r → r < 1024
+  items_at : (blocks : List (List T)) (count : ℕ) (block : List T) (q r : ℕ) (x : T) → AreFilled blocks count → slice_get blocks q ≡ Some block
+      → count ≡ q * 1024 + r → r < 1024
       → items_of (slice_set blocks q (block ++ x ∷ [])) ≡ items_of blocks ++ x ∷ []
   items_at [] count block q r x filled is place small = cc
   items_at (first ∷ blocks) count block zero r x filled is place small =
@@ -143,7 +152,8 @@ module _ {T : Type 0} where
       let none = behind_short blocks count (omega (arith, place, small)) filled.1 in
       rw (here, none) (append-nil (block ++ x ∷ []) ∙ ap (λ b. b ++ x ∷ []) (sym (append-nil block)))
   items_at (first ∷ blocks) count block (suc q) r x filled is place small =
-      ap (λ l. first ++ l) (items_at blocks (count - 1024) block q r x filled.1 is (omega (arith, place)) small) ∙ sym (append_assoc first (items_of blocks) (x ∷ []))
+      ap (λ l. first ++ l) (items_at blocks (count - 1024) block q r x filled.1 is (omega (arith, place)) small)
+      ∙ sym (append_assoc first (items_of blocks) (x ∷ []))
 
   pub filled_more : (blocks : List (List T)) (count : ℕ) (block : List T) (x : T) → AreFilled blocks count → slice_get blocks (count / 1024) ≡ Some block
       → AreFilled (slice_set blocks (count / 1024) (block ++ x ∷ [])) (count + 1)

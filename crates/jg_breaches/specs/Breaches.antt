@@ -37,7 +37,7 @@ use Rattle.jg_rules.specs.declared.named.Named.{Named}
 use Rattle.jg_rules.specs.declared.named.Named.TheVariants.{Nothing, Null as NamesNull, Object}
 use Rattle.jg_rules.specs.declared.operand.Operand.{Operand}
 use Rattle.jg_rules.specs.Parts.{Parts}
-use Rattle.jg_rules.specs.Access.{native_class, native_use}
+use Rattle.jg_rules.specs.NativeUse.{native_class, native_use}
 use Rattle.jg_rules.specs.Buffers.{buffer_named, is_of_family, is_of_object, is_anothers, is_of_array, is_place, item_type}
 use Rattle.jg_rules.specs.Names.{names, object_named, the_object, class_of, pending, native_meant}
 use Rattle.jg_rules.specs.Numbers.{is_value_of}

@@ -2,7 +2,7 @@
 
 ghost use Rattle.std.specs.Prelude.{◌≡◌};
 ghost use Rattle.jg_words.specs.declared.call.vm.VmCall.TheVariants.{NativeEnter};
-ghost use Rattle.jg_rules.specs.Access.{native_use, vm_use};
+ghost use Rattle.jg_rules.specs.NativeUse.{native_use, vm_use};
 ghost use Rattle.jg_rules.specs.Names.{pending};
 ghost use Rattle.jg_rules.specs.Parts.{Parts};
 ghost use Rattle.jg_rules.specs.View.{ViewStands};

@@ -11,6 +11,7 @@ use Rattle.jg_core.specs.declared.fact.Checked.{Checked as CheckedFact}
 use Rattle.jg_core.specs.declared.fact.Checked.TheVariants as checked
 use Rattle.jg_core.specs.declared.fact.Fact.{Fact}
 use Rattle.jg_core.specs.declared.fact.Fact.TheVariants.{Begin, End, Enter, Leave, Push, Pop, Ensure, Raise, Calm, Hand, Lost, Lend, Back, Own, Free, Meet, Gone, Link, Unlink, Warn, Checked}
+use Rattle.jg_record.specs.Writing.{teller_of}
 use Rattle.jg_c.specs.declared.fact.JgFact.{JgFact}
 use Rattle.jg_c.specs.Values.{buffer_of, kind_of, object_of, reference_of, thread_of}
 
@@ -128,3 +129,7 @@ of_thread word thread = record {
 
 abbrev pub checked_as : CheckedFact → Fact
 checked_as c = Checked c
+
+-- the number of its thread; 0 where it is no thread's own
+abbrev pub number_of_thread : Fact → ℕ
+number_of_thread fact = (teller_of (record { 0 = 0 }) fact).0

@@ -24,7 +24,7 @@ use Rattle.jg_c.specs.Cores.{CoreHeld}
 use Rattle.jg_c.specs.declared.fact.JgFact.{JgFact}
 use Rattle.jg_c.specs.declared.held.JgHeld.{JgHeld}
 use Rattle.jg_c.specs.Errors as errors
-use Rattle.jg_c.specs.Facts.{fact_of}
+use Rattle.jg_c.specs.Facts.{fact_of, number_of_thread}
 use Rattle.jg_c.specs.Given.{of_given}
 use Rattle.jg_c.specs.Holders.{holder_of}
 use Rattle.jg_core.specs.Implied.{given_by}
@@ -110,7 +110,8 @@ TellsNothing ticket = (s : StatedSetup) (p : Parts) (says : Says) (fact : Option
 abbrev pub WritesTold : Option (Option Fact) → JgFact → JgFact → ℤ → Type 0
 WritesTold None old new n = (n ≡ errors.impossible) × (new ≡ old)
 WritesTold (Some None) old new n = (n ≡ errors.done) × (new ≡ old)
-WritesTold (Some (Some fact)) old new n = (n ≡ pos 1) × (fact_of new ≡ Some fact)
+WritesTold (Some (Some fact)) old new n =
+    (n ≡ pos 1) × (fact_of new ≡ Some fact) × (new.thread ≡ number_of_thread fact)
 
 abbrev pub IsToldBy : Ticket → Option Says → JgFact → JgFact → ℤ → Type 0
 IsToldBy ticket None old new n = (n ≡ errors.bad_value) × (new ≡ old)

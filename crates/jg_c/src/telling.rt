@@ -14,12 +14,12 @@ ghost use Rattle.jg_c.specs.Tickets as tickets;
 
 use crate::error::{DONE, of_untold};
 use crate::fact::{JgFact, fact_of, handed, lost};
+use crate::fact_numbers::of_fact;
 use crate::given::{of_given, says_of};
 use crate::handle::Handle;
 use crate::numbers::{BAD_FACT, BAD_TICKET, BAD_VALUE, CLOSED, GOT, IMPOSSIBLE, LOST};
 use crate::session::CoreSession;
 use crate::ticket::{JgTicket, mark_told, ticket_of, untold_ticket_of};
-use crate::told::of_fact;
 use crate::value::JgValue;
 use jg_core::{Core, Expected, Fact, Says, Ticket, told};
 use jg_judge::is_kind;

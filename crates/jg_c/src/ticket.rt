@@ -4,7 +4,7 @@ ghost use Rattle.std.specs.Prelude.{◌≡◌, Some, false, nat_lt, true};
 ghost use Rattle.jg_c.specs.Tickets as tickets;
 
 use crate::fact::{JgFact, fact_of, family_of};
-use crate::told::{of_fact, of_family, of_kept};
+use crate::fact_numbers::{of_fact, of_family, of_kept};
 use crate::value::{kind_of, number_of, of_reference, thread_of};
 use jg_core::{Expected, Ticket};
 

@@ -9,7 +9,7 @@ use Rattle.jg_words.specs.declared.call.vm.VmCall.{VmCall}
 use Rattle.jg_words.specs.declared.call.vm.VmCall.TheVariants.{Collect}
 use Rattle.jg_policy.specs.Stated.{StatedSetup}
 use Rattle.jg_rules.specs.Parts.{Parts}
-use Rattle.jg_rules.specs.Access.{native_class, home_of}
+use Rattle.jg_rules.specs.NativeUse.{native_class, home_of}
 use Rattle.jg_rules.specs.Holding.{going}
 use Rattle.jg_core.specs.declared.fact.Fact.{Fact}
 use Rattle.jg_core.specs.declared.fact.Fact.TheVariants.{Leave, Pop}

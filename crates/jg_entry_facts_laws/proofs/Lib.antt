@@ -13,4 +13,5 @@ mod Own
 mod Going
 mod Told
 pub mod Histories
+mod Tickets
 mod Worked

@@ -66,7 +66,7 @@ use Rattle.jg_rules.specs.declared.named.Named.{Named}
 use Rattle.jg_rules.specs.declared.named.Named.TheVariants.{Nothing}
 use Rattle.jg_rules.specs.Parts.{Parts}
 use Rattle.jg_rules.specs.Names.{names, next_ref, object_named, the_object, pending, class_by, class_meant, native_meant, field_meant, session, class_of, target_in, slot_of, slot_place, object_count, is_here, open_frames, depth, length_of, units_of, items_of}
-use Rattle.jg_rules.specs.Access.{native_class, home_of}
+use Rattle.jg_rules.specs.NativeUse.{native_class, home_of}
 use Rattle.jg_rules.specs.Buffers.{is_commit, writes_back, is_open_and, buffer_named}
 use Rattle.jg_rules.specs.Rules.{is_nothing, is_null, is_by, is_not, is_not_owned}
 use Rattle.jg_rules.specs.Effects.{settled, passed_on, done_by, done_if, call_heap, wrote_copy, wrote_pinned, wrote_back, copied_back, closed, linking, unlinking, is_effective, if_effective, first_value, pointer}
@@ -249,7 +249,7 @@ met_more (heap.Wrote o j v ∷ xs) ys = met_more xs ys
 met_more (heap.Collected roots ∷ xs) ys = met_more xs ys
 met_more (heap.Went o ∷ xs) ys = met_more xs ys
 
-region_met : (o j : ℕ) (values : List ℤ) → object_facts (heap.region_writes o j values) ≡ []
+pub region_met : (o j : ℕ) (values : List ℤ) → object_facts (heap.region_writes o j values) ≡ []
 region_met o j [] = refl
 region_met o j (v ∷ values) = met_more (heap.region_writes o (j + 1) values) (heap.Wrote o j (Number v) ∷ [])
     ∙ ap (λ xs. xs ++ []) (region_met o (j + 1) values)

@@ -31,7 +31,7 @@ use Rattle.jg_table_heap.specs.Making.{class_in, length_in}
 use Rattle.jg_table_heap.specs.Reading.{natural}
 use Rattle.jg_rules.specs.Parts.{Parts}
 use Rattle.jg_rules.specs.Names.{the_object, pending}
-use Rattle.jg_rules.specs.Access.{native_class, home_of}
+use Rattle.jg_rules.specs.NativeUse.{native_class, home_of}
 use Rattle.jg_rules.specs.Holding.{going}
 use Rattle.jg_rules.specs.Effects.{parts, is_effective, if_effective, warning, vm_links, objects_heap, strings_heap, arrays_heap, buffers_buffers}
 use Rattle.jg_words.specs.Classes.{class_thrown}

@@ -1,3 +1,4 @@
 pub mod Entries
 pub mod Alike
 pub mod Laws
+pub mod Tickets

@@ -1,8 +1,8 @@
-//! The entries of the written machine are facts, and to judge by facts is to judge by entries. Each law is the contract
-//! of a function that does nothing.
+//! The entries of the written machine are facts: to judge by facts is to judge by entries, and the ticket of a call's
+//! question tells the facts of its entry. Each law is the contract of a function that does nothing.
 #![tactic(auto)]
 
-ghost use Rattle.jg_entry_facts_laws.specs.Laws.{FactsReadAlike, FactsCouldBe, AlikeIsJudgedAlike, JudgedAlike, AskedAlike};
+ghost use Rattle.jg_entry_facts_laws.specs.Laws.{FactsReadAlike, FactsCouldBe, AlikeIsJudgedAlike, JudgedAlike, AskedAlike, TicketsTellFacts};
 
 /// A legal history and the facts that its entries are leave parts that read the same: sessions, native methods,
 /// frames, locals and what is pending, what references name, open buffers but for their items, monitors, the objects
@@ -29,4 +29,11 @@ pub fn judged_alike()
 /// After the facts of a legal history a call's question is answered by the verdict on the call after the history.
 pub fn asked_alike()
     ensures { AskedAlike }
+{}
+
+/// After the facts of a legal history a call that breaks no rule is handed a ticket, and with what the machine says of
+/// the call the ticket tells the facts of its entry: one or none, besides those that are told by themselves. Those are
+/// the objects that are made, a native method's class, an exception that stays pending, and warnings.
+pub fn tickets_tell_facts()
+    ensures { TicketsTellFacts }
 {}

@@ -13,7 +13,7 @@ use Rattle.jg_policy.specs.Stated.{StatedSetup}
 use Rattle.jg_policy.specs.Links as links
 use Rattle.jg_table_monitors.specs.History as monitors
 use Rattle.jg_rules.specs.Parts.{Parts}
-use Rattle.jg_rules.specs.Access.{native_class, home_of}
+use Rattle.jg_rules.specs.NativeUse.{native_class, home_of}
 use Rattle.jg_rules.specs.Rules.{is_by}
 use Rattle.jg_rules.specs.Effects.{after, parts, call_links, call_monitors, if_effective, is_effective, warning}
 use Rattle.jg_breaches.specs.declared.condition.Condition.{Condition}

@@ -36,7 +36,7 @@ use Rattle.jg_rules.specs.Names.{next_ref, next_buffer, open_frames, object_in, 
 use Rattle.std.specs.Option.{unwrap_or}
 use Rattle.jg_policy.specs.Links as links
 use Rattle.jg_rules.specs.Effects.{done_by, done_if, is_effective, settled, passed_on, warning, call_threads, call_buffers}
-use Rattle.jg_rules.specs.Access.{native_class, home_of}
+use Rattle.jg_rules.specs.NativeUse.{native_class, home_of}
 use Rattle.jg_rules.specs.declared.named.Named.{Named}
 use Rattle.jg_rules.specs.declared.named.Named.TheVariants.{Nothing, Null as NamesNull, Object}
 use Rattle.jg_rules.specs.Rules.{detached, is_nothing, is_null, is_by, is_not_owned}

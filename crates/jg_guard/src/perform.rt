@@ -4,7 +4,7 @@ ghost use Rattle.std.specs.Prelude.{◌≡◌, true, false, OnOk, OnErr};
 ghost use Rattle.jg_rules.specs.Parts.{Parts, TablesStand};
 ghost use Rattle.jg_rules.specs.Answers.{unnoticed};
 ghost use Rattle.jg_rules.specs.Effects as effects;
-ghost use Rattle.jg_rules.specs.Access.{home_of, native_class};
+ghost use Rattle.jg_rules.specs.NativeUse.{home_of, native_class};
 ghost use Rattle.jg_rules.specs.Effects.{passed_on, done_by, warning};
 ghost use Rattle.jg_guard.specs.Cleaning.{cleans_up};
 ghost use Rattle.jg_guard.specs.Findings.{Finds, IsReady};

@@ -18,7 +18,7 @@ told_append (x ∷ xs) ys = ap (λ (facts : List Fact). facts_in x.event x.gone 
 
 tell_so : (by : Tid) (lines : List Line) (facts : List Fact) → Tell by lines facts → facts_told lines ≡ facts
 tell_so by [] facts none = sym none
-tell_so by (line ∷ lines) facts (own, rest, tell, is) = ap (λ (more : List Fact). facts_in line.event line.gone ++ more) (tell_so by lines rest tell) ∙ sym is
+tell_so by (line ∷ lines) facts (own, telling, rest, tell, is) = ap (λ (more : List Fact). facts_in line.event line.gone ++ more) (tell_so by lines rest tell) ∙ sym is
 
 pub records_tell_facts : RecordsTellFacts
 records_tell_facts s [] text none = ([], none, refl)

@@ -1,5 +1,5 @@
 -- Lines of a record, and the facts that they tell.
-use Rattle.std.specs.Prelude.{ℕ, ◌≡◌, List, [], ◌∷◌, ◌++◌, map}
+use Rattle.std.specs.Prelude.{ℕ, ◌≡◌, ◌≤◌, Bool, true, false, List, [], ◌∷◌, ◌++◌, length, map}
 use Rattle.jg_words.specs.declared.thread.Tid.{Tid}
 use Rattle.jg_words.specs.declared.object.ObjId.{ObjId}
 use Rattle.jg_policy.specs.Stated.{StatedSetup}
@@ -18,16 +18,19 @@ pub record Line : Type 0 where
   pub arguments : List Argument
   pub gone : List ObjId
 
+-- the text is that of the line's event, of at most 65,536 bytes
+abbrev pub IsLineText : StatedSetup → Line → List ℕ → Type 0
+IsLineText s line own = IsTextOf s line.by line.event line.arguments line.gone own × (length own ≤ 65536)
+
 -- the text is that of the lines, each with its line feed
 abbrev pub AreLines : StatedSetup → List Line → List ℕ → Type 0
 AreLines s [] text = text ≡ []
-AreLines s (line ∷ lines) text = (own rest : List ℕ) × IsTextOf s line.by line.event line.arguments line.gone own
-    × AreLines s lines rest × (text ≡ own ++ 10 ∷ rest)
+AreLines s (line ∷ lines) text =
+    (own rest : List ℕ) × IsLineText s line own × AreLines s lines rest × (text ≡ own ++ 10 ∷ rest)
 
 -- the line of such an event was appended
 abbrev pub AddsLine : StatedSetup → Line → List ℕ → List ℕ → Type 0
-AddsLine s line old new = (own : List ℕ) × IsTextOf s line.by line.event line.arguments line.gone own
-    × (new ≡ old ++ (own ++ 10 ∷ []))
+AddsLine s line old new = (own : List ℕ) × IsLineText s line own × (new ≡ old ++ (own ++ 10 ∷ []))
 
 -- the facts that an event tells, oldest first
 abbrev pub facts_in : Event → List ObjId → List Fact
@@ -36,10 +39,17 @@ facts_in AreGone gone = map (λ o. Gone o) gone
 facts_in (Question t env place) gone = []
 facts_in (Bounds bounds) gone = []
 
+-- an event tells facts: it asks nothing, and states no bounds
+abbrev pub tells : Event → Bool
+tells (Told fact) = true
+tells AreGone = true
+tells (Question t env place) = false
+tells (Bounds bounds) = false
+
 -- the lines tell these facts, oldest first, and nothing else
 abbrev pub Tell : Tid → List Line → List Fact → Type 0
 Tell by [] facts = facts ≡ []
-Tell by (line ∷ lines) facts = (line.by ≡ by) × (rest : List Fact) × Tell by lines rest
+Tell by (line ∷ lines) facts = (line.by ≡ by) × (tells line.event ≡ true) × (rest : List Fact) × Tell by lines rest
     × (facts ≡ facts_in line.event line.gone ++ rest)
 
 -- the facts that lines tell, oldest first

@@ -9,7 +9,6 @@ use Rattle.jg_rules.specs.Parts.{Parts}
 use Rattle.jg_rules.specs.Effects.{parts}
 use Rattle.jg_judge.specs.Written.{arguments_of, row_for, written_bounds}
 use Rattle.jg_record.specs.declared.event.Event.TheVariants.{Question, Bounds}
-use Rattle.jg_record.specs.Writing.{IsTextOf}
 use Rattle.jg_entry_facts_laws.specs.Entries.{outcome_facts}
 use Rattle.jg_explain.specs.Explained.{as_it_was}
 use Rattle.jg_script.specs.declared.run_fault.RunFault.{RunFault}
@@ -19,7 +18,7 @@ use Rattle.jg_script.specs.declared.replay.Replayed.TheVariants.{Legal, Differs}
 use Rattle.jg_script.specs.Replayed.{Finds, IsHistory, verdict_in}
 use Rattle.jg_journal_record.specs.declared.fault.RetellFault.{RetellFault}
 use Rattle.jg_journal_record.specs.declared.fault.RetellFault.TheVariants.{Unwritten, Write as CannotWrite}
-use Rattle.jg_journal_record.specs.Lines.{Line, AddsLine, AddsFacts}
+use Rattle.jg_journal_record.specs.Lines.{Line, IsLineText, AddsLine, AddsFacts}
 
 -- the line is the question that the entry's call is, where p is what came before it
 pub record IsQuestion (s : StatedSetup) (p : Parts) (x : Entry) (line : Line) : Type 0 where
@@ -45,10 +44,13 @@ abbrev pub IsRecordOf : StatedSetup → List Entry → List ℕ → Type 0
 IsRecordOf s [] text = text ≡ []
 IsRecordOf s (x ∷ h) text = (front : List ℕ) × IsRecordOf s h front × AddsEntry s (parts s h) x front text
 
--- the bounds that the guard judges by, and then the record of the history, were written
+-- the line of the bounds that the guard judges by
+abbrev pub bounds_line : Line
+bounds_line = record { by = record { 0 = 0 }; event = Bounds written_bounds; arguments = []; gone = [] }
+
+-- that line, and then the record of the history, were written
 abbrev pub WritesRecord : StatedSetup → List Entry → Option (List ℕ) → Option (List ℕ) → Type 0
-WritesRecord s h bytes bytes' = (first rest : List ℕ)
-    × IsTextOf s (record { 0 = 0 }) (Bounds written_bounds) [] [] first × IsRecordOf s h rest
+WritesRecord s h bytes bytes' = (first rest : List ℕ) × IsLineText s bounds_line first × IsRecordOf s h rest
     × Appends bytes bytes' ((first ++ 10 ∷ []) ++ rest)
 
 -- the lines of the entry were, where p is what came before it
@@ -57,8 +59,8 @@ WritesEntry s p x bytes bytes' = (text : List ℕ) × AddsEntry s p x [] text ×
 
 -- so were the bounds
 abbrev pub WritesBounds : StatedSetup → Option (List ℕ) → Option (List ℕ) → Type 0
-WritesBounds s bytes bytes' = (first : List ℕ) × IsTextOf s (record { 0 = 0 }) (Bounds written_bounds) [] [] first
-    × Appends bytes bytes' (first ++ 10 ∷ [])
+WritesBounds s bytes bytes' =
+    (first : List ℕ) × IsLineText s bounds_line first × Appends bytes bytes' (first ++ 10 ∷ [])
 
 -- the writer failed where the fault is `Write`, and nowhere else
 abbrev pub FailsAt : Bool → Bool → RetellFault → Type 0
@@ -72,8 +74,7 @@ WriterFails old new (Err fault) = FailsAt old new fault
 -- why the bounds weren't written: nothing of their line is, or a part of it
 abbrev pub StopsBefore : StatedSetup → Option (List ℕ) → Option (List ℕ) → RetellFault → Type 0
 StopsBefore s bytes bytes' (Unwritten line why) = (line ≡ 1) × (bytes' ≡ bytes)
-StopsBefore s bytes bytes' (CannotWrite line) = (line ≡ 1) × (first : List ℕ)
-    × IsTextOf s (record { 0 = 0 }) (Bounds written_bounds) [] [] first
+StopsBefore s bytes bytes' (CannotWrite line) = (line ≡ 1) × (first : List ℕ) × IsLineText s bounds_line first
     × (k : ℕ) × (k ≤ length first) × Appends bytes bytes' (take k (first ++ 10 ∷ []))
 
 -- why the lines of the entry weren't, which are told to be of this line of the journal

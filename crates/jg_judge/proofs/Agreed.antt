@@ -33,7 +33,7 @@ use Rattle.jg_rules.specs.declared.operand.ObjectType.TheVariants.{AnyObject, Cl
 use Rattle.jg_rules.specs.Parts.{Parts}
 use Rattle.jg_rules.specs.Names.{names, class_of, native_meant}
 use Rattle.jg_rules.specs.Operands.{is_of}
-use Rattle.jg_rules.specs.Access.{refuses}
+use Rattle.jg_rules.specs.NativeUse.{refuses}
 use Rattle.jg_rules.specs.Buffers.{buffer_named, item_type, is_place, is_value_of_type}
 use Rattle.jg_rules.specs.Rules as rules
 use Rattle.jg_rules.specs.Rules.{is_foreign, is_nothing, is_null, is_linked, rules_in_order}

@@ -5,6 +5,7 @@ pub mod Found
 pub mod Judged
 pub mod Kept
 pub mod Looked
+pub mod Room
 pub mod Rows
 pub mod Sorts
 pub mod Split

@@ -15,7 +15,7 @@ use Rattle.jg_words.specs.declared.fun.arrays.ArraysFun.TheVariants.{NewArray, G
 use Rattle.jg_words.specs.declared.fun.monitors.MonitorsFun.TheVariants.{MonitorEnter, MonitorExit}
 use Rattle.jg_words.specs.declared.fun.buffers.BuffersFun.TheVariants.{GetArrayElements, ReleaseArrayElements, GetStringChars, ReleaseStringChars, GetStringUTFChars, ReleaseStringUTFChars, GetPrimitiveArrayCritical, ReleasePrimitiveArrayCritical, GetStringCritical, ReleaseStringCritical, BufferRead, BufferWrite}
 use Rattle.jg_words.specs.Fun.{needs_env}
-use Rattle.jg_words.specs.Passing as passing
+use Rattle.jg_words.specs.MayCall as passing
 use Rattle.jg_table_buffers.specs.declared.family.Family.TheVariants.{Elements, Chars, UtfChars, ArrayCritical, StringCritical}
 use Rattle.jg_rows.specs.declared.row.ObjectKind.TheVariants.{AnyObject, ClassObject, PlainClass, ThrowableObject, StringObject, AnyArray, PrimitiveArray, ArrayOf, ObjectArray}
 use Rattle.jg_rows.specs.declared.row.ValueType.TheVariants.{Item as ItemOf, Object}

@@ -20,7 +20,7 @@ use Rattle.jg_rules.specs.Parts.{Parts}
 use Rattle.jg_rules.specs.Numbers.{is_within, is_value_of}
 use Rattle.jg_rules.specs.Names.{names, session, depth, open_frames, pending, class_meant, object_named}
 use Rattle.jg_rules.specs.Buffers.{buffer_named, is_mode, item_type, is_value_of_type}
-use Rattle.jg_rules.specs.Access.{refuses}
+use Rattle.jg_rules.specs.NativeUse.{refuses}
 use Rattle.jg_rules.specs.Rules.{of_another, wrong_caller, is_session, is_foreign, is_nothing, is_null, is_not, is_releasable, is_readable, is_writable, is_outside_of, is_not_owned, is_linked, rules_in_order}
 use Rattle.jg_rows.specs.declared.row.ObjectKind.{ObjectKind}
 use Rattle.jg_rows.specs.declared.row.Takes.{Takes}

@@ -11,7 +11,7 @@ ghost use Rattle.jg_judge.specs.Written.{AreStated, written_bounds};
 
 use crate::argument::{Argument, Bounds};
 use crate::function::function_of;
-use crate::operands::{Arguments, arguments_of};
+use crate::operands::{ROOM, list_arguments};
 use crate::question::{Verdict, verdict_on};
 use jg_rows::{Row, row_of};
 use jg_rules::View;
@@ -50,12 +50,7 @@ pub fn verdict_on_call<A: Allocator + Clone>(
     let Some(row) = row_of(usize::from(function_of(call))) else {
         unreachable!()
     };
-    match arguments_of(view, tid, call) {
-        Arguments::Empty => broken_by(view, tid, env, row, &[]),
-        Arguments::One(first) => broken_by(view, tid, env, row, &[first]),
-        Arguments::Two(first, second) => broken_by(view, tid, env, row, &[first, second]),
-        Arguments::Three(first, second, third) => {
-            broken_by(view, tid, env, row, &[first, second, third])
-        }
-    }
+    let mut room = ROOM;
+    let count = list_arguments(view, tid, call, &mut room);
+    broken_by(view, tid, env, row, &room[..count])
 }

@@ -57,18 +57,18 @@ fn of_nothing(tid: Tid, reference: Ref) -> Rule
 fn of_reference<A: Allocator + Clone, S: Store>(
     view: &View<'_, A, S>,
     tid: Tid,
-    takes: Takes,
+    takes: &Takes,
     reference: Ref,
     named: Named,
 ) -> Option<Rule>
     ensures { (p : Parts) → ViewTells S.Tells view.now p → named ≡ names p tid.0 reference → result
-        ≡ spec.first_of (spec.of_reference view.now.setup.now p tid.0 (asked.judged_of takes (Reference reference))) }
+        ≡ spec.first_of (spec.of_reference view.now.setup.now p tid.0 (asked.judged_of takes.now (Reference reference))) }
 {
     match takes {
         Takes::Reference(kind) => match named {
             Named::Nothing => Some(of_nothing(tid, reference)),
             Named::Null => Some(Rule::NullReference),
-            Named::Object(object) => (!is_kind(view, kind, object)).then_some(Rule::WrongType),
+            Named::Object(object) => (!is_kind(view, *kind, object)).then_some(Rule::WrongType),
         },
         Takes::Nullable | Takes::Arguments => match named {
             Named::Nothing => Some(of_nothing(tid, reference)),
@@ -226,46 +226,46 @@ pub fn look_at<A: Allocator + Clone, S: Store>(
     bounds: Bounds,
     tid: Tid,
     operands: &[Argument],
-    takes: Takes,
-    argument: Argument,
+    takes: &Takes,
+    argument: &Argument,
 ) -> Option<Seen>
-    ensures suits { is_some result ≡ suits_one takes argument }
+    ensures suits { is_some result ≡ suits_one takes.now argument.now }
     ensures named { (p : Parts) → ViewTells S.Tells view.now p
-        → IfSome result (λ seen. seen.named ≡ named_in p tid.0 argument) }
+        → IfSome result (λ seen. seen.named ≡ named_in p tid.0 argument.now) }
     ensures broken { (p : Parts) → ViewTells S.Tells view.now p → IfSome result (λ seen. seen.broken ≡ spec.first_of
-        (spec.faults_of view.now.setup.now p tid.0 (beside_of bounds p operands.now) takes argument)) }
+        (spec.faults_of view.now.setup.now p tid.0 (beside_of bounds p operands.now) takes.now argument.now)) }
 {
     match argument {
         Argument::Reference(reference) => {
-            let named = look_up(view, tid, reference);
-            if takes_reference(takes) {
+            let named = look_up(view, tid, *reference);
+            if takes_reference(*takes) {
                 Some(Seen {
                     named: Some(named),
-                    broken: of_reference(view, tid, takes, reference, named),
+                    broken: of_reference(view, tid, takes, *reference, named),
                 })
             } else {
                 None
             }
         }
         Argument::Buffer(buffer) => {
-            let breaks = is_refused_buffer(view, tid, operands, takes, buffer);
-            comes_to(takes_buffer(takes), Rule::BadBuffer, breaks)
+            let breaks = is_refused_buffer(view, tid, operands, *takes, *buffer);
+            comes_to(takes_buffer(*takes), Rule::BadBuffer, breaks)
         }
         Argument::Number(n) => {
-            let breaks = is_wrong_number(view, bounds, operands, takes, n);
-            comes_to(takes_number(takes), Rule::BadArgument, breaks)
+            let breaks = is_wrong_number(view, bounds, operands, *takes, *n);
+            comes_to(takes_number(*takes), Rule::BadArgument, breaks)
         }
         Argument::Value(value) => {
-            let breaks = is_wrong_value(view, operands, takes, value);
-            comes_to(takes_value(takes), Rule::BadArgument, breaks)
+            let breaks = is_wrong_value(view, operands, *takes, *value);
+            comes_to(takes_value(*takes), Rule::BadArgument, breaks)
         }
-        Argument::Id { fits } => comes_to(takes_id(takes), Rule::BadField, !fits),
+        Argument::Id { fits } => comes_to(takes_id(*takes), Rule::BadField, !*fits),
         Argument::Class(class) => {
-            let breaks = is_unstated(view.setup, class);
-            comes_to(takes_class(takes), Rule::BadArgument, breaks)
+            let breaks = is_unstated(view.setup, *class);
+            comes_to(takes_class(*takes), Rule::BadArgument, breaks)
         }
-        Argument::Native(_) => comes_to(takes_native(takes), Rule::BadArgument, false),
-        Argument::Name => comes_to(takes_name(takes), Rule::BadArgument, false),
-        Argument::List { fits, .. } => comes_to(takes_list(takes), Rule::BadArgument, !fits),
+        Argument::Native(_) => comes_to(takes_native(*takes), Rule::BadArgument, false),
+        Argument::Name => comes_to(takes_name(*takes), Rule::BadArgument, false),
+        Argument::List { fits, .. } => comes_to(takes_list(*takes), Rule::BadArgument, !*fits),
     }
 }

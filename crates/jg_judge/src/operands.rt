@@ -1,6 +1,6 @@
 //! The operands of the question that a call is, as its function's row takes them.
 
-ghost use Rattle.std.specs.Prelude.{◌≡◌, ◌++◌, not, length, OnOk};
+ghost use Rattle.std.specs.Prelude.{◌≡◌, ◌≤◌, ◌++◌, [], ◌∷◌, not, length, take, OnOk};
 ghost use Rattle.std.specs.List.{list_all};
 ghost use Rattle.std.specs.Option.{is_some};
 ghost use Rattle.jg_words.specs.declared.object.Primitive.TheVariants.{Char};
@@ -46,15 +46,57 @@ fn native_of<A: Allocator + Clone>(
     Argument::Native(native_meant(view.setup, class, method, signature))
 }
 
+/// Room for the operands of a call.
+pub(crate) type Room = [Argument; 3];
+
+/// Room that is empty: what stands in it isn't read.
+pub(crate) const ROOM: Room = [Argument::Reference(Ref::Null); 3];
+
 #[inline(always)]
-fn vm_arguments<A: Allocator + Clone>(view: &View<'_, A>, tid: Tid, call: &VmCall) -> Arguments
-    ensures { (p : Parts) → ViewStands view.now p
-        → listed result ≡ written.vm_arguments view.now.setup.now p tid.0 call.now }
+fn one(out: &mut Room, first: Argument) -> usize
+    ensures few { result ≤ 3 }
+    ensures listed { take result out.new ≡ first ∷ [] }
+{
+    out[0] = first;
+    1
+}
+
+#[inline(always)]
+fn two(out: &mut Room, first: Argument, second: Argument) -> usize
+    ensures few { result ≤ 3 }
+    ensures listed { take result out.new ≡ first ∷ second ∷ [] }
+{
+    out[0] = first;
+    out[1] = second;
+    2
+}
+
+#[inline(always)]
+fn three(out: &mut Room, first: Argument, second: Argument, third: Argument) -> usize
+    ensures few { result ≤ 3 }
+    ensures listed { take result out.new ≡ first ∷ second ∷ third ∷ [] }
+{
+    out[0] = first;
+    out[1] = second;
+    out[2] = third;
+    3
+}
+
+#[inline(always)]
+fn vm_arguments<A: Allocator + Clone>(
+    view: &View<'_, A>,
+    tid: Tid,
+    call: &VmCall,
+    out: &mut Room,
+) -> usize
+    ensures few { result ≤ 3 }
+    ensures listed { (p : Parts) → ViewStands view.now p
+        → take result out.new ≡ written.vm_arguments view.now.setup.now p tid.0 call.now }
 {
     match call {
-        VmCall::AttachCurrentThread => Empty,
-        VmCall::DetachCurrentThread => Empty,
-        VmCall::GetEnv => Empty,
+        VmCall::AttachCurrentThread => 0,
+        VmCall::DetachCurrentThread => 0,
+        VmCall::GetEnv => 0,
         VmCall::NativeEnter {
             class,
             method,
@@ -62,12 +104,12 @@ fn vm_arguments<A: Allocator + Clone>(view: &View<'_, A>, tid: Tid, call: &VmCal
         } => {
             let class = view.setup.class_named(class);
             let native = native_of(view, class, method, signature);
-            Two(Class(class), native)
+            two(out, Class(class), native)
         }
-        VmCall::NativeLeave { kept } => One(Reference(*kept)),
+        VmCall::NativeLeave { kept } => one(out, Reference(*kept)),
         VmCall::LoadLibrary { class, .. } => {
             let class = view.setup.class_named(class);
-            Two(Class(class), Argument::Name)
+            two(out, Class(class), Argument::Name)
         }
         VmCall::RegisterNatives {
             class,
@@ -75,50 +117,53 @@ fn vm_arguments<A: Allocator + Clone>(view: &View<'_, A>, tid: Tid, call: &VmCal
             signature,
         } => {
             let native = native_of(view, class_meant(view, tid, *class), method, signature);
-            Two(Reference(*class), native)
+            two(out, Reference(*class), native)
         }
-        VmCall::UnregisterNatives { class } => One(Reference(*class)),
-        VmCall::Collect => Empty,
+        VmCall::UnregisterNatives { class } => one(out, Reference(*class)),
+        VmCall::Collect => 0,
     }
 }
 
 #[inline(always)]
-fn refs_arguments(call: &RefsCall) -> Arguments
-    ensures { listed result ≡ written.refs_arguments call.now }
+fn refs_arguments(call: &RefsCall, out: &mut Room) -> usize
+    ensures few { result ≤ 3 }
+    ensures listed { take result out.new ≡ written.refs_arguments call.now }
 {
     match call {
-        RefsCall::NewLocalRef { of } => One(Reference(*of)),
-        RefsCall::NewGlobalRef { of } => One(Reference(*of)),
-        RefsCall::NewWeakGlobalRef { of } => One(Reference(*of)),
-        RefsCall::DeleteLocalRef { of } => One(Reference(*of)),
-        RefsCall::DeleteGlobalRef { of } => One(Reference(*of)),
-        RefsCall::DeleteWeakGlobalRef { of } => One(Reference(*of)),
-        RefsCall::IsSameObject { first, second } => Two(Reference(*first), Reference(*second)),
-        RefsCall::GetObjectRefType { of } => One(Reference(*of)),
+        RefsCall::NewLocalRef { of } => one(out, Reference(*of)),
+        RefsCall::NewGlobalRef { of } => one(out, Reference(*of)),
+        RefsCall::NewWeakGlobalRef { of } => one(out, Reference(*of)),
+        RefsCall::DeleteLocalRef { of } => one(out, Reference(*of)),
+        RefsCall::DeleteGlobalRef { of } => one(out, Reference(*of)),
+        RefsCall::DeleteWeakGlobalRef { of } => one(out, Reference(*of)),
+        RefsCall::IsSameObject { first, second } => two(out, Reference(*first), Reference(*second)),
+        RefsCall::GetObjectRefType { of } => one(out, Reference(*of)),
     }
 }
 
 #[inline(always)]
-fn frames_arguments(call: &FramesCall) -> Arguments
-    ensures { listed result ≡ written.frames_arguments call.now }
+fn frames_arguments(call: &FramesCall, out: &mut Room) -> usize
+    ensures few { result ≤ 3 }
+    ensures listed { take result out.new ≡ written.frames_arguments call.now }
 {
     match call {
-        FramesCall::PushLocalFrame { capacity } => One(Number(*capacity)),
-        FramesCall::PopLocalFrame { kept } => One(Reference(*kept)),
-        FramesCall::EnsureLocalCapacity { capacity } => One(Number(*capacity)),
+        FramesCall::PushLocalFrame { capacity } => one(out, Number(*capacity)),
+        FramesCall::PopLocalFrame { kept } => one(out, Reference(*kept)),
+        FramesCall::EnsureLocalCapacity { capacity } => one(out, Number(*capacity)),
     }
 }
 
 #[inline(always)]
-fn exceptions_arguments(call: &ExceptionsCall) -> Arguments
-    ensures { listed result ≡ written.exceptions_arguments call.now }
+fn exceptions_arguments(call: &ExceptionsCall, out: &mut Room) -> usize
+    ensures few { result ≤ 3 }
+    ensures listed { take result out.new ≡ written.exceptions_arguments call.now }
 {
     match call {
-        ExceptionsCall::Throw { exception } => One(Reference(*exception)),
-        ExceptionsCall::ExceptionOccurred => Empty,
-        ExceptionsCall::ExceptionDescribe => Empty,
-        ExceptionsCall::ExceptionClear => Empty,
-        ExceptionsCall::ExceptionCheck => Empty,
+        ExceptionsCall::Throw { exception } => one(out, Reference(*exception)),
+        ExceptionsCall::ExceptionOccurred => 0,
+        ExceptionsCall::ExceptionDescribe => 0,
+        ExceptionsCall::ExceptionClear => 0,
+        ExceptionsCall::ExceptionCheck => 0,
     }
 }
 
@@ -143,16 +188,23 @@ fn objects_arguments<A: Allocator + Clone>(
     view: &View<'_, A>,
     tid: Tid,
     call: &ObjectsCall,
-) -> Arguments
-    ensures { (p : Parts) → ViewStands view.now p
-        → listed result ≡ written.objects_arguments view.now.setup.now p tid.0 call.now }
+    out: &mut Room,
+) -> usize
+    ensures few { result ≤ 3 }
+    ensures listed { (p : Parts) → ViewStands view.now p
+        → take result out.new ≡ written.objects_arguments view.now.setup.now p tid.0 call.now }
 {
     match call {
-        ObjectsCall::FindClass { .. } => One(Argument::Name),
-        ObjectsCall::GetObjectClass { object } => One(Reference(*object)),
-        ObjectsCall::IsInstanceOf { object, class } => Two(Reference(*object), Reference(*class)),
-        ObjectsCall::AllocObject { class } => One(Reference(*class)),
-        ObjectsCall::GetFieldID { class, .. } => Three(
+        ObjectsCall::FindClass { .. } => one(out, Argument::Name),
+        ObjectsCall::GetObjectClass { object } => one(out, Reference(*object)),
+        ObjectsCall::IsInstanceOf { object, class } => two(
+            out,
+            Reference(*object),
+            Reference(*class),
+        ),
+        ObjectsCall::AllocObject { class } => one(out, Reference(*class)),
+        ObjectsCall::GetFieldID { class, .. } => three(
+            out,
             Reference(*class),
             Argument::Name,
             Argument::Name,
@@ -163,11 +215,11 @@ fn objects_arguments<A: Allocator + Clone>(
             field,
         } => {
             let id = field_id(view, tid, Some(*primitive), *object, *field);
-            Two(Reference(*object), id)
+            two(out, Reference(*object), id)
         }
         ObjectsCall::GetObjectField { object, field } => {
             let id = field_id(view, tid, None, *object, *field);
-            Two(Reference(*object), id)
+            two(out, Reference(*object), id)
         }
         ObjectsCall::SetField {
             primitive,
@@ -176,7 +228,7 @@ fn objects_arguments<A: Allocator + Clone>(
             value,
         } => {
             let id = field_id(view, tid, Some(*primitive), *object, *field);
-            Three(Reference(*object), id, Value(*value))
+            three(out, Reference(*object), id, Value(*value))
         }
         ObjectsCall::SetObjectField {
             object,
@@ -184,7 +236,7 @@ fn objects_arguments<A: Allocator + Clone>(
             value,
         } => {
             let id = field_id(view, tid, None, *object, *field);
-            Three(Reference(*object), id, Reference(*value))
+            three(out, Reference(*object), id, Reference(*value))
         }
     }
 }
@@ -212,35 +264,37 @@ fn bytes_of(bytes: &Items) -> Argument
 }
 
 #[inline(always)]
-fn strings_arguments(call: &StringsCall) -> Arguments
-    ensures { listed result ≡ written.strings_arguments call.now }
+fn strings_arguments(call: &StringsCall, out: &mut Room) -> usize
+    ensures few { result ≤ 3 }
+    ensures listed { take result out.new ≡ written.strings_arguments call.now }
 {
     match call {
-        StringsCall::NewString { units } => One(items_of(Primitive::Char, units)),
-        StringsCall::NewStringUTF { bytes } => One(bytes_of(bytes)),
-        StringsCall::GetStringLength { string } => One(Reference(*string)),
-        StringsCall::GetStringUTFLength { string } => One(Reference(*string)),
+        StringsCall::NewString { units } => one(out, items_of(Primitive::Char, units)),
+        StringsCall::NewStringUTF { bytes } => one(out, bytes_of(bytes)),
+        StringsCall::GetStringLength { string } => one(out, Reference(*string)),
+        StringsCall::GetStringUTFLength { string } => one(out, Reference(*string)),
         StringsCall::GetStringRegion {
             string,
             start,
             length,
-        } => Three(Reference(*string), Number(*start), Number(*length)),
+        } => three(out, Reference(*string), Number(*start), Number(*length)),
     }
 }
 
 #[inline(always)]
-fn arrays_arguments(call: &ArraysCall) -> Arguments
-    ensures { listed result ≡ written.arrays_arguments call.now }
+fn arrays_arguments(call: &ArraysCall, out: &mut Room) -> usize
+    ensures few { result ≤ 3 }
+    ensures listed { take result out.new ≡ written.arrays_arguments call.now }
 {
     match call {
-        ArraysCall::NewArray { length, .. } => One(Number(*length)),
-        ArraysCall::GetArrayLength { array } => One(Reference(*array)),
+        ArraysCall::NewArray { length, .. } => one(out, Number(*length)),
+        ArraysCall::GetArrayLength { array } => one(out, Reference(*array)),
         ArraysCall::GetArrayRegion {
             array,
             start,
             length,
             ..
-        } => Three(Reference(*array), Number(*start), Number(*length)),
+        } => three(out, Reference(*array), Number(*start), Number(*length)),
         ArraysCall::SetArrayRegion {
             element,
             array,
@@ -248,14 +302,15 @@ fn arrays_arguments(call: &ArraysCall) -> Arguments
             values,
         } => {
             let values = items_of(*element, values);
-            Three(Reference(*array), Number(*start), values)
+            three(out, Reference(*array), Number(*start), values)
         }
         ArraysCall::NewObjectArray {
             length,
             class,
             fill,
-        } => Three(Number(*length), Reference(*class), Reference(*fill)),
-        ArraysCall::GetObjectArrayElement { array, index } => Two(
+        } => three(out, Number(*length), Reference(*class), Reference(*fill)),
+        ArraysCall::GetObjectArrayElement { array, index } => two(
+            out,
             Reference(*array),
             Number(*index),
         ),
@@ -263,98 +318,103 @@ fn arrays_arguments(call: &ArraysCall) -> Arguments
             array,
             index,
             value,
-        } => Three(Reference(*array), Number(*index), Reference(*value)),
+        } => three(out, Reference(*array), Number(*index), Reference(*value)),
     }
 }
 
 #[inline(always)]
-fn monitors_arguments(call: &MonitorsCall) -> Arguments
-    ensures { listed result ≡ written.monitors_arguments call.now }
+fn monitors_arguments(call: &MonitorsCall, out: &mut Room) -> usize
+    ensures few { result ≤ 3 }
+    ensures listed { take result out.new ≡ written.monitors_arguments call.now }
 {
     match call {
-        MonitorsCall::MonitorEnter { of } => One(Reference(*of)),
-        MonitorsCall::MonitorExit { of } => One(Reference(*of)),
+        MonitorsCall::MonitorEnter { of } => one(out, Reference(*of)),
+        MonitorsCall::MonitorExit { of } => one(out, Reference(*of)),
     }
 }
 
 #[inline(always)]
-fn buffers_arguments(call: &BuffersCall) -> Arguments
-    ensures { listed result ≡ written.buffers_arguments call.now }
+fn buffers_arguments(call: &BuffersCall, out: &mut Room) -> usize
+    ensures few { result ≤ 3 }
+    ensures listed { take result out.new ≡ written.buffers_arguments call.now }
 {
     match call {
-        BuffersCall::GetArrayElements { array, .. } => One(Reference(*array)),
+        BuffersCall::GetArrayElements { array, .. } => one(out, Reference(*array)),
         BuffersCall::ReleaseArrayElements {
             array,
             buffer,
             mode,
             ..
-        } => Three(Reference(*array), Buffer(*buffer), Number(*mode)),
-        BuffersCall::GetStringChars { string } => One(Reference(*string)),
-        BuffersCall::ReleaseStringChars { string, buffer } => Two(
+        } => three(out, Reference(*array), Buffer(*buffer), Number(*mode)),
+        BuffersCall::GetStringChars { string } => one(out, Reference(*string)),
+        BuffersCall::ReleaseStringChars { string, buffer } => two(
+            out,
             Reference(*string),
             Buffer(*buffer),
         ),
-        BuffersCall::GetStringUTFChars { string } => One(Reference(*string)),
-        BuffersCall::ReleaseStringUTFChars { string, buffer } => Two(
+        BuffersCall::GetStringUTFChars { string } => one(out, Reference(*string)),
+        BuffersCall::ReleaseStringUTFChars { string, buffer } => two(
+            out,
             Reference(*string),
             Buffer(*buffer),
         ),
-        BuffersCall::GetPrimitiveArrayCritical { array } => One(Reference(*array)),
+        BuffersCall::GetPrimitiveArrayCritical { array } => one(out, Reference(*array)),
         BuffersCall::ReleasePrimitiveArrayCritical {
             array,
             buffer,
             mode,
-        } => Three(Reference(*array), Buffer(*buffer), Number(*mode)),
-        BuffersCall::GetStringCritical { string } => One(Reference(*string)),
-        BuffersCall::ReleaseStringCritical { string, buffer } => Two(
+        } => three(out, Reference(*array), Buffer(*buffer), Number(*mode)),
+        BuffersCall::GetStringCritical { string } => one(out, Reference(*string)),
+        BuffersCall::ReleaseStringCritical { string, buffer } => two(
+            out,
             Reference(*string),
             Buffer(*buffer),
         ),
-        BuffersCall::BufferRead { buffer, index } => Two(Buffer(*buffer), Number(*index)),
+        BuffersCall::BufferRead { buffer, index } => two(out, Buffer(*buffer), Number(*index)),
         BuffersCall::BufferWrite {
             buffer,
             index,
             value,
-        } => Three(Buffer(*buffer), Number(*index), Value(*value)),
+        } => three(out, Buffer(*buffer), Number(*index), Value(*value)),
+    }
+}
+
+/// Puts the operands of the question that the call is into the room, and answers how many they are.
+#[inline(always)]
+pub(crate) fn list_arguments<A: Allocator + Clone>(
+    view: &View<'_, A>,
+    tid: Tid,
+    call: &Call,
+    out: &mut Room,
+) -> usize
+    ensures few { result ≤ 3 }
+    ensures listed { (p : Parts) → ViewStands view.now p
+        → take result out.new ≡ written.arguments_of view.now.setup.now p tid.0 call.now }
+{
+    match call {
+        Call::Vm(call) => vm_arguments(view, tid, call, out),
+        Call::Refs(call) => refs_arguments(call, out),
+        Call::Frames(call) => frames_arguments(call, out),
+        Call::Exceptions(call) => exceptions_arguments(call, out),
+        Call::Objects(call) => objects_arguments(view, tid, call, out),
+        Call::Strings(call) => strings_arguments(call, out),
+        Call::Arrays(call) => arrays_arguments(call, out),
+        Call::Monitors(call) => monitors_arguments(call, out),
+        Call::Buffers(call) => buffers_arguments(call, out),
     }
 }
 
 /// The operands of the question that the call is.
-#[inline(always)]
 pub fn arguments_of<A: Allocator + Clone>(view: &View<'_, A>, tid: Tid, call: &Call) -> Arguments
     ensures { (p : Parts) → ViewStands view.now p
         → listed result ≡ written.arguments_of view.now.setup.now p tid.0 call.now }
 {
-    match call {
-        Call::Vm(call) => vm_arguments(view, tid, call),
-        Call::Refs(call) => refs_arguments(call),
-        Call::Frames(call) => frames_arguments(call),
-        Call::Exceptions(call) => exceptions_arguments(call),
-        Call::Objects(call) => objects_arguments(view, tid, call),
-        Call::Strings(call) => strings_arguments(call),
-        Call::Arrays(call) => arrays_arguments(call),
-        Call::Monitors(call) => monitors_arguments(call),
-        Call::Buffers(call) => buffers_arguments(call),
-    }
-}
-
-fn push(arguments: Arguments, out: &mut Vec<Argument>) -> Result<(), AllocError>
-    ensures { OnOk result (out.new.items ≡ out.old.items ++ listed arguments) }
-{
-    match arguments {
-        Empty => Ok(()),
-        One(first) => {
-            out.extend_from_slice(&[first])?;
-            Ok(())
-        }
-        Two(first, second) => {
-            out.extend_from_slice(&[first, second])?;
-            Ok(())
-        }
-        Three(first, second, third) => {
-            out.extend_from_slice(&[first, second, third])?;
-            Ok(())
-        }
+    let mut room = ROOM;
+    match list_arguments(view, tid, call, &mut room) {
+        0 => Empty,
+        1 => One(room[0]),
+        2 => Two(room[0], room[1]),
+        _ => Three(room[0], room[1], room[2]),
     }
 }
 
@@ -368,6 +428,8 @@ pub fn push_arguments<A: Allocator + Clone>(
     ensures { OnOk result ((p : Parts) → ViewStands view.now p
         → out.new.items ≡ out.old.items ++ written.arguments_of view.now.setup.now p tid.0 call.now) }
 {
-    push(arguments_of(view, tid, call), out)?;
+    let mut room = ROOM;
+    let count = list_arguments(view, tid, call, &mut room);
+    out.extend_from_slice(&room[..count])?;
     Ok(())
 }

@@ -65,7 +65,7 @@ pub fn look_over<A: Allocator + Clone, S: Store>(
         let Some((take, more)) = wanted.split_first() else {
             return None;
         };
-        let Some(seen) = look_at(view, bounds, tid, arguments, *take, *argument) else {
+        let Some(seen) = look_at(view, bounds, tid, arguments, take, argument) else {
             return None;
         };
         first = first.or(seen.named);

@@ -24,7 +24,8 @@ pub did_same : (t u : ℕ) (a : Act) (te : List Event) → t ≢ u → acts_of t
 did_same t u a te differ = grind (arith, nat_tests)
 
 -- an act that isn't of the kind leaves each thread's count of them
-count_same : (kind : Act → Bool) (te : List Event) (u : ℕ) (a : Act) → kind a ≡ false → (t : ℕ) → how_many kind (acts_of t (by u a ∷ te)) ≡ how_many kind (acts_of t te)
+count_same : (kind : Act → Bool) (te : List Event) (u : ℕ) (a : Act) → kind a ≡ false → (t : ℕ)
+    → how_many kind (acts_of t (by u a ∷ te)) ≡ how_many kind (acts_of t te)
 count_same kind te u a quiet t =
     each_thread (λ v. how_many kind (acts_of v (by u a ∷ te)) ≡ how_many kind (acts_of v te)) u
     (ap (how_many kind) (did_more u a te) ∙ grind (arith, nat_tests, quiet))
@@ -43,7 +44,8 @@ abbrev are_quiet : List Act → Bool
 are_quiet [] = true
 are_quiet (a ∷ acts) = not (is_count_ref a) && are_quiet acts
 
-refs_if : (b : Bool) (te : List Event) (u : ℕ) (a : Act) (acts : List Act) → (are_quiet acts ≡ true → (t : ℕ) → refs (acts_of t (map (by u) acts ++ te)) ≡ refs (acts_of t te))
+refs_if : (b : Bool) (te : List Event) (u : ℕ) (a : Act) (acts : List Act)
+    → (are_quiet acts ≡ true → (t : ℕ) → refs (acts_of t (map (by u) acts ++ te)) ≡ refs (acts_of t te))
     → is_count_ref a ≡ b → (not b && are_quiet acts) ≡ true → (t : ℕ) → refs (acts_of t (by u a ∷ (map (by u) acts ++ te))) ≡ refs (acts_of t te)
 refs_if true te u a acts rest is quiet t = absurd cc
 refs_if false te u a acts rest is quiet t = refs_same (map (by u) acts ++ te) u a is t ∙ rest quiet t
@@ -131,7 +133,8 @@ call_stays s p t (Buffers call) env = refl
 
 pub attached_done : (s : StatedSetup) (p : Parts) (t : ℕ) (call : Call) → needs_env (fun_of call) ≡ true → attached (acts_of t p.threads) ≡ true
     → attached (acts_of t (done_by s t call p).threads) ≡ true
-attached_done s p t call env on = rw (acts_own t (call_threads s p t call) p.threads) (stays_attached (call_threads s p t call) (acts_of t p.threads) (call_stays s p t call env) on)
+attached_done s p t call env on =
+    rw (acts_own t (call_threads s p t call) p.threads) (stays_attached (call_threads s p t call) (acts_of t p.threads) (call_stays s p t call env) on)
 
 attached_if : (a b : Bool) (n m : ℕ) → not (b && is_session (cond a (Some n) None) m) ≡ false → a ≡ true
 attached_if true b n m h = refl
@@ -139,6 +142,7 @@ attached_if false true n m h = absurd cc
 attached_if false false n m h = absurd cc
 
 -- a call that takes an environment, and isn't detached, comes from an attached thread
-pub attached_caller : (p : Parts) (t : ℕ) (env : Option EnvId) (call : Call) → needs_env (fun_of call) ≡ true → detached p t env call ≡ false → attached (acts_of t p.threads) ≡ true
+pub attached_caller : (p : Parts) (t : ℕ) (env : Option EnvId) (call : Call) → needs_env (fun_of call) ≡ true → detached p t env call ≡ false
+    → attached (acts_of t p.threads) ≡ true
 attached_caller p t None call takes is = absurd (cc (takes, is))
 attached_caller p t (Some env) call takes is = attached_if (attached (acts_of t p.threads)) (env.tid.0 == t) _ env.session is

@@ -27,7 +27,7 @@ use Rattle.jg_rules.specs.declared.named.Named.{Named}
 use Rattle.jg_rules.specs.declared.named.Named.TheVariants.{Nothing}
 use Rattle.jg_rules.specs.Parts.{Parts}
 use Rattle.jg_rules.specs.Names.{named_by, named_by_target, object_in, next_ref}
-use Rattle.jg_rules.specs.Access.{native_class, home_of}
+use Rattle.jg_rules.specs.NativeUse.{native_class, home_of}
 use Rattle.jg_rules.specs.Effects.{parts, after, settled, done_if, is_effective}
 use Rattle.jg_rules.specs.Rules.{verdict}
 use Rattle.jg_rules.specs.Answers.{answer}
@@ -56,12 +56,14 @@ one_reference q r is = cc
 same_to : (kind : Kind) (maker t : Tid) (n m : ℕ) → maker ≡ t → n ≡ m → To kind maker n ≡ To kind t m
 same_to kind maker t n m a b = cc
 
-is_next : (p q : Parts) (t maker : Tid) (kind : Kind) (n : ℕ) (r : Ref) (same : next_ref q t.0 ≡ next_ref p t.0) → maker ≡ t → n ≡ next_ref p t.0 → Some (To kind maker n) ≡ Some r
+is_next : (p q : Parts) (t maker : Tid) (kind : Kind) (n : ℕ) (r : Ref) (same : next_ref q t.0 ≡ next_ref p t.0) → maker ≡ t → n ≡ next_ref p t.0
+    → Some (To kind maker n) ≡ Some r
     → Raises p t (record q { threads = threads.by t.0 threads.CountRef ∷ q.threads }) r
 is_next p q t maker kind n r same own next is =
     ((kind, one_reference (To kind maker n) r is ∙ same_to kind maker t n (next_ref p t.0) own next), omega (arith, next_more q t.0, same))
 
-settled_next : (s : StatedSetup) (home : Option ℕ) (p q : Parts) (t : Tid) (call : Call) (value : Value) (warned : Bool) (o : Option ObjId) (r : Ref) → IsProper s p t call value warned o
+settled_next : (s : StatedSetup) (home : Option ℕ) (p q : Parts) (t : Tid) (call : Call) (value : Value) (warned : Bool) (o : Option ObjId) (r : Ref)
+    → IsProper s p t call value warned o
     → next_ref q t.0 ≡ next_ref p t.0
     → reference_in value ≡ Some r → Raises p t (settled home t.0 (record { value = value; warned = warned; noticed = false }) o q) r
 settled_next s home p q t call (Reference v) warned None r own same is = absurd own
@@ -71,10 +73,12 @@ settled_next s home p q t call (Reference (To Global maker n)) warned (Some o) r
 settled_next s home p q t call (Reference (To Weak maker n)) warned (Some o) r own same is = is_next p q t maker Weak n r same own.1 own.2 is
 settled_next s home p q t call value warned o r own same is = absurd (no_reference is)
 
-passed_next : (s : StatedSetup) (p : Parts) (t : Tid) (call : Call) (r : Ref) → reference_in (answer s p t call).reply.value ≡ Some r → Raises p t (answered s p t call (answer s p t call)) r
+passed_next : (s : StatedSetup) (p : Parts) (t : Tid) (call : Call) (r : Ref) → reference_in (answer s p t call).reply.value ≡ Some r
+    → Raises p t (answered s p t call (answer s p t call)) r
 passed_next s p t call r is =
     let a : Answer = answer s p t call in
-    settled_next s (home_of s (native_class s p t.0 call)) p (done_if (is_effective a.reply.value) s t.0 call p) t call a.reply.value a.reply.warned a.object r (proper s p t call)
+    settled_next s (home_of s (native_class s p t.0 call)) p (done_if (is_effective a.reply.value) s t.0 call p) t call a.reply.value a.reply.warned a.object r
+    (proper s p t call)
     (next_done_if (is_effective a.reply.value) s p t.0 call t.0) is
 
 by_next : (s : StatedSetup) (v : Option Rule) (p : Parts) (t : Tid) (env : Option EnvId) (call : Call) (r : Ref) (x : Entry)
@@ -95,7 +99,8 @@ abbrev pub Counted : Ref → Parts → Type 0
 Counted Null p = ⊥
 Counted (To kind maker n) p = n < next_ref p maker.0
 
-counted_more : (s : StatedSetup) (r : Ref) (h : List Entry) (x : Entry) → x ≡ entry_at s (parts s h) x.tid x.env x.call → Counted r (parts s h) → Counted r (parts s (x ∷ h))
+counted_more : (s : StatedSetup) (r : Ref) (h : List Entry) (x : Entry) → x ≡ entry_at s (parts s h) x.tid x.env x.call → Counted r (parts s h)
+    → Counted r (parts s (x ∷ h))
 counted_more s Null h x legal old = old
 counted_more s (To kind maker n) h x legal old =
     let still = each_entry (AtLeast maker.0 (n + 1)) s (at_least_steps s maker.0 (n + 1)) (parts s h) x legal (omega (arith, old)) in
@@ -133,7 +138,8 @@ some_live n m is gone =
     let there : object_of (local_if_live n (Some m)) ≡ Some m.object = rw is refl in
     cc
 
-gone_if : (b : Bool) (a : Act) (n : ℕ) (m : Making) → survives n m.later ≡ b → object_of (local_if_live n (Some m)) ≡ None → object_of (local_if_live n (seen_after a (Some m))) ≡ None
+gone_if : (b : Bool) (a : Act) (n : ℕ) (m : Making) → survives n m.later ≡ b → object_of (local_if_live n (Some m)) ≡ None
+    → object_of (local_if_live n (seen_after a (Some m))) ≡ None
 gone_if true a n m is gone = absurd (some_live n m is gone)
 gone_if false a n m is gone = rw is refl
 
@@ -150,7 +156,8 @@ made_other m n o acts differ gone =
 abbrev pub Gone : ℕ → ℕ → Parts → Type 0
 Gone t n p = (n + 1 ≤ next_ref p t) × (live n (acts_of t p.locals) ≡ None)
 
-gone_same : (le : List Event) (u : ℕ) (a : Act) (t n : ℕ) → ((acts : List Act) → live n acts ≡ None → live n (a ∷ acts) ≡ None) → live n (acts_of t le) ≡ None → live n (acts_of t (by u a ∷ le)) ≡ None
+gone_same : (le : List Event) (u : ℕ) (a : Act) (t n : ℕ) → ((acts : List Act) → live n acts ≡ None → live n (a ∷ acts) ≡ None) → live n (acts_of t le) ≡ None
+    → live n (acts_of t (by u a ∷ le)) ≡ None
 gone_same le u a t n keeps =
     each_thread (λ v. live n (acts_of v le) ≡ None → live n (acts_of v (by u a ∷ le)) ≡ None) u
     (λ old. rw (acts_more u u a le refl) (keeps (acts_of u le) old))
@@ -194,7 +201,8 @@ gone_steps s t n =
 
 -- for a local of the caller
 local_gone : (s : StatedSetup) (newer later h : List Entry) (t n o : ℕ) → Legal s (newer ++ (later ++ h))
-    → live n (acts_of t (parts s h).locals) ≡ Some o → live n (acts_of t (parts s (later ++ h)).locals) ≡ None → live n (acts_of t (parts s (newer ++ (later ++ h))).locals) ≡ None
+    → live n (acts_of t (parts s h).locals) ≡ Some o → live n (acts_of t (parts s (later ++ h)).locals) ≡ None
+    → live n (acts_of t (parts s (newer ++ (later ++ h))).locals) ≡ None
 local_gone s newer later h t n o legal was gone =
     let middle = Legal-before s newer (later ++ h) legal in
     let old = Legal-before s later h middle in
@@ -231,11 +239,13 @@ kind_target Weak e maker n = globals.weak_target e maker n
 abbrev Passes : ℕ → ℕ → globals.Event → Type 0
 Passes maker n ev = global_laws.makes maker n ev ≡ false
 
-strong_if : (b : Bool) (maker n : ℕ) (old : Option ℕ) → target_object (globals.strong_target old) ≡ None → target_object (globals.strong_target (if b then None else old)) ≡ None
+strong_if : (b : Bool) (maker n : ℕ) (old : Option ℕ) → target_object (globals.strong_target old) ≡ None
+    → target_object (globals.strong_target (if b then None else old)) ≡ None
 strong_if true maker n old gone = refl
 strong_if false maker n old gone = gone
 
-strong_still : (ev : globals.Event) (e : List globals.Event) (maker n : ℕ) → Passes maker n ev → target_object (globals.strong_target (globals.strong e maker n)) ≡ None
+strong_still : (ev : globals.Event) (e : List globals.Event) (maker n : ℕ) → Passes maker n ev
+    → target_object (globals.strong_target (globals.strong e maker n)) ≡ None
     → target_object (globals.strong_target (globals.strong (ev ∷ e) maker n)) ≡ None
 strong_still (globals.MakeStrong k i o) e maker n other gone = rw other gone
 strong_still (globals.MakeWeak k i o) e maker n other gone = gone
@@ -260,10 +270,14 @@ weak_if false later old gone = gone
 
 weak_still : (ev : globals.Event) (e : List globals.Event) (maker n : ℕ) → Passes maker n ev → target_object (globals.weak_target e maker n) ≡ None
     → target_object (globals.weak_target (ev ∷ e) maker n) ≡ None
-weak_still (globals.MakeStrong k i o) e maker n other gone = cleared_still (globals.after_making maker n e) (globals.MakeStrong k i o) (globals.weak e maker n) gone
-weak_still (globals.MakeWeak k i o) e maker n other gone = rw other (cleared_still (globals.after_making maker n e) (globals.MakeWeak k i o) (globals.weak e maker n) gone)
-weak_still (globals.DeleteStrong k i) e maker n other gone = cleared_still (globals.after_making maker n e) (globals.DeleteStrong k i) (globals.weak e maker n) gone
-weak_still (globals.DeleteWeak k i) e maker n other gone = weak_if (globals.is_same maker n k i) (globals.DeleteWeak k i ∷ globals.after_making maker n e) (globals.weak e maker n)
+weak_still (globals.MakeStrong k i o) e maker n other gone =
+    cleared_still (globals.after_making maker n e) (globals.MakeStrong k i o) (globals.weak e maker n) gone
+weak_still (globals.MakeWeak k i o) e maker n other gone =
+    rw other (cleared_still (globals.after_making maker n e) (globals.MakeWeak k i o) (globals.weak e maker n) gone)
+weak_still (globals.DeleteStrong k i) e maker n other gone =
+    cleared_still (globals.after_making maker n e) (globals.DeleteStrong k i) (globals.weak e maker n) gone
+weak_still (globals.DeleteWeak k i) e maker n other gone =
+    weak_if (globals.is_same maker n k i) (globals.DeleteWeak k i ∷ globals.after_making maker n e) (globals.weak e maker n)
     (cleared_still (globals.after_making maker n e) (globals.DeleteWeak k i) (globals.weak e maker n) gone)
 weak_still (globals.Clear o) e maker n other gone = cleared_still (globals.after_making maker n e) (globals.Clear o) (globals.weak e maker n) gone
 
@@ -278,8 +292,10 @@ kind_none : (kind : Kind) (e g : List globals.Event) (maker n : ℕ) → make_no
 kind_none kind [] g maker n none gone = gone
 kind_none kind (globals.MakeStrong k i o ∷ e) g maker n none gone = absurd cc
 kind_none kind (globals.MakeWeak k i o ∷ e) g maker n none gone = absurd cc
-kind_none kind (globals.DeleteStrong k i ∷ e) g maker n none gone = kind_still kind (globals.DeleteStrong k i) (e ++ g) maker n refl (kind_none kind e g maker n none gone)
-kind_none kind (globals.DeleteWeak k i ∷ e) g maker n none gone = kind_still kind (globals.DeleteWeak k i) (e ++ g) maker n refl (kind_none kind e g maker n none gone)
+kind_none kind (globals.DeleteStrong k i ∷ e) g maker n none gone =
+    kind_still kind (globals.DeleteStrong k i) (e ++ g) maker n refl (kind_none kind e g maker n none gone)
+kind_none kind (globals.DeleteWeak k i ∷ e) g maker n none gone =
+    kind_still kind (globals.DeleteWeak k i) (e ++ g) maker n refl (kind_none kind e g maker n none gone)
 kind_none kind (globals.Clear o ∷ e) g maker n none gone = kind_still kind (globals.Clear o) (e ++ g) maker n refl (kind_none kind e g maker n none gone)
 
 -- the reference was handed out, and names no object
@@ -312,8 +328,10 @@ ended_steps s kind t n =
       to_heap = λ p e all old. old;
       to_links = λ p e old. old;
       hands = λ p u k o is old. (counts.hands p u k o is old.0, old.1);
-      hands_strong = λ p u k o is old. (counts.hands_strong p u k o is old.0, kind_still kind (globals.MakeStrong u k o) p.globals t n (not_same p u k t n is old.0) old.1);
-      hands_weak = λ p u k o is old. (counts.hands_weak p u k o is old.0, kind_still kind (globals.MakeWeak u k o) p.globals t n (not_same p u k t n is old.0) old.1);
+      hands_strong = λ p u k o is
+          old. (counts.hands_strong p u k o is old.0, kind_still kind (globals.MakeStrong u k o) p.globals t n (not_same p u k t n is old.0) old.1);
+      hands_weak = λ p u k o is
+          old. (counts.hands_weak p u k o is old.0, kind_still kind (globals.MakeWeak u k o) p.globals t n (not_same p u k t n is old.0) old.1);
       lends = λ p u b own old. (counts.lends p u b own old.0, old.1);
       raises = λ p u o old. (counts.raises p u o old.0, old.1);
       calms = λ p u old. (counts.calms p u old.0, old.1);
@@ -328,12 +346,14 @@ strong_below_if : (b : Bool) (e : List globals.Event) (m t n k i p o : ℕ) → 
 strong_below_if true e m t n k i p o same below rest is = let both = same_pair t n k i same in omega (arith, below both.0, both.1)
 strong_below_if false e m t n k i p o same below rest is = rest is
 
-deleted_below : (b : Bool) (old : Option ℕ) (m n o : ℕ) → (target_object (globals.strong_target old) ≡ Some o → n < m) → target_object (globals.strong_target (if b then None else old)) ≡ Some o
+deleted_below : (b : Bool) (old : Option ℕ) (m n o : ℕ) → (target_object (globals.strong_target old) ≡ Some o → n < m)
+    → target_object (globals.strong_target (if b then None else old)) ≡ Some o
     → n < m
 deleted_below true old m n o rest is = absurd cc
 deleted_below false old m n o rest is = rest is
 
-weak_made_if : (b : Bool) (old : Option ℕ) (m t n k i p o : ℕ) → globals.is_same t n k i ≡ b → (k ≡ t → i < m) → (old ≡ Some o → n < m) → (if b then Some p else old) ≡ Some o → n < m
+weak_made_if : (b : Bool) (old : Option ℕ) (m t n k i p o : ℕ) → globals.is_same t n k i ≡ b → (k ≡ t → i < m) → (old ≡ Some o → n < m)
+    → (if b then Some p else old) ≡ Some o → n < m
 weak_made_if true old m t n k i p o same below rest is = let both = same_pair t n k i same in omega (arith, below both.0, both.1)
 weak_made_if false old m t n k i p o same below rest is = rest is
 
@@ -342,19 +362,24 @@ weak_deleted true old m n o rest is = absurd cc
 weak_deleted false old m n o rest is = rest is
 
 -- a reference that names an object was made, so that its number was handed out
-strong_below : (e : List globals.Event) (m t n o : ℕ) → global_laws.IsMadeBelow t m e → target_object (globals.strong_target (globals.strong e t n)) ≡ Some o → n < m
+strong_below : (e : List globals.Event) (m t n o : ℕ) → global_laws.IsMadeBelow t m e → target_object (globals.strong_target (globals.strong e t n)) ≡ Some o
+    → n < m
 strong_below [] m t n o below is = absurd cc
-strong_below (globals.MakeStrong k i p ∷ e) m t n o below is = strong_below_if (globals.is_same t n k i) e m t n k i p o refl below.0 (λ rest. strong_below e m t n o below.1 rest) is
+strong_below (globals.MakeStrong k i p ∷ e) m t n o below is =
+    strong_below_if (globals.is_same t n k i) e m t n k i p o refl below.0 (λ rest. strong_below e m t n o below.1 rest) is
 strong_below (globals.MakeWeak k i p ∷ e) m t n o below is = strong_below e m t n o below.1 is
-strong_below (globals.DeleteStrong k i ∷ e) m t n o below is = deleted_below (globals.is_same t n k i) (globals.strong e t n) m n o (λ rest. strong_below e m t n o below rest) is
+strong_below (globals.DeleteStrong k i ∷ e) m t n o below is =
+    deleted_below (globals.is_same t n k i) (globals.strong e t n) m n o (λ rest. strong_below e m t n o below rest) is
 strong_below (globals.DeleteWeak k i ∷ e) m t n o below is = strong_below e m t n o below is
 strong_below (globals.Clear p ∷ e) m t n o below is = strong_below e m t n o below is
 
 weak_made : (e : List globals.Event) (m t n o : ℕ) → global_laws.IsMadeBelow t m e → globals.weak e t n ≡ Some o → n < m
 weak_made [] m t n o below is = absurd cc
-weak_made (globals.MakeWeak k i p ∷ e) m t n o below is = weak_made_if (globals.is_same t n k i) (globals.weak e t n) m t n k i p o refl below.0 (λ rest. weak_made e m t n o below.1 rest) is
+weak_made (globals.MakeWeak k i p ∷ e) m t n o below is =
+    weak_made_if (globals.is_same t n k i) (globals.weak e t n) m t n k i p o refl below.0 (λ rest. weak_made e m t n o below.1 rest) is
 weak_made (globals.MakeStrong k i p ∷ e) m t n o below is = weak_made e m t n o below.1 is
-weak_made (globals.DeleteWeak k i ∷ e) m t n o below is = weak_deleted (globals.is_same t n k i) (globals.weak e t n) m n o (λ rest. weak_made e m t n o below rest) is
+weak_made (globals.DeleteWeak k i ∷ e) m t n o below is =
+    weak_deleted (globals.is_same t n k i) (globals.weak e t n) m n o (λ rest. weak_made e m t n o below rest) is
 weak_made (globals.DeleteStrong k i ∷ e) m t n o below is = weak_made e m t n o below is
 weak_made (globals.Clear p ∷ e) m t n o below is = weak_made e m t n o below is
 
@@ -383,5 +408,6 @@ no_reference_revived s newest later first t o Null legal was is = refl
 no_reference_revived s newest later first t o (To Global maker n) legal was is = global_gone Global s newest later first maker.0 n o legal was is
 no_reference_revived s newest later first t o (To Weak maker n) legal was is = global_gone Weak s newest later first maker.0 n o legal was is
 no_reference_revived s newest later first t o (To Local maker n) legal was is =
-    own_gone (maker.0 == t) o (live n (acts_of t (parts s first).locals)) (live n (acts_of t (parts s (later ++ first)).locals)) (live n (acts_of t (parts s (newest ++ (later ++ first))).locals))
+    own_gone (maker.0 == t) o (live n (acts_of t (parts s first).locals)) (live n (acts_of t (parts s (later ++ first)).locals))
+    (live n (acts_of t (parts s (newest ++ (later ++ first))).locals))
     (local_gone s newest later first t n o legal) was is

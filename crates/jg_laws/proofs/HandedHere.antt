@@ -50,7 +50,7 @@ use Rattle.jg_rules.specs.declared.named.Named.TheVariants.{Nothing, Null as Nam
 use Rattle.jg_rules.specs.declared.operand.ObjectType.TheVariants.{ObjectArray}
 use Rattle.jg_rules.specs.Parts.{Parts}
 use Rattle.jg_rules.specs.Names.{names, object_in, object_named, the_object, is_here, class_of, length_of, units_of, items_of, slot_of, slot_place, target_in, pending, session, class_meant, native_meant, field_meant}
-use Rattle.jg_rules.specs.Access.{native_class, home_of}
+use Rattle.jg_rules.specs.NativeUse.{native_class, home_of}
 use Rattle.jg_rules.specs.Effects.{parts, after, call_heap, done_if, if_effective, is_effective, settled, first_value, pointer}
 use Rattle.jg_words.specs.Classes.{class_thrown}
 use Rattle.jg_rules.specs.Rules.{verdict, is_stated_as, is_of_class}
@@ -102,15 +102,19 @@ inside true b c is = absurd cc
 inside false true c is = absurd cc
 inside false false c is = is
 
-element_here : (s : StatedSetup) (p : Parts) (t : ℕ) (env : Option EnvId) (r : Ref) (index : ℤ) (o : ℕ) → Unbroken s p t env (Arrays (GetObjectArrayElement r index)) → AllHere s p
-    → is_outside index (pos 1) (length_of s p (the_object p t r)) ≡ false → target_in (slot_of s p (the_object p t r) (natural index)) ≡ Some o → Here (class_count s) p.heap o
+element_here : (s : StatedSetup) (p : Parts) (t : ℕ) (env : Option EnvId) (r : Ref) (index : ℤ) (o : ℕ)
+    → Unbroken s p t env (Arrays (GetObjectArrayElement r index)) → AllHere s p
+    → is_outside index (pos 1) (length_of s p (the_object p t r)) ≡ false → target_in (slot_of s p (the_object p t r) (natural index)) ≡ Some o
+    → Here (class_count s) p.heap o
 element_here s p t env r index o kept all within is =
     let x : ℕ = the_object p t r in
-    let array : class_of s p x ≡ 3 = eqb-true (class_of s p x) 3 (first_is_of s p ObjectArray (names p t r) false false false kept.alive kept.not_null kept.right_type) in
+    let array : class_of s p x ≡ 3 =
+    eqb-true (class_of s p x) 3 (first_is_of s p ObjectArray (names p t r) false false false kept.alive kept.not_null kept.right_type) in
     let made = made_so s p x 3 array (omega arith) in
     let size = slots_of (heap.making_at (class_count s) p.heap x) (omega (arith, made.class)) in
     let low : nat_lt (length_of s p x) (natural index + 1) ≡ false = inside (int_lt index (pos 0)) (int_lt (pos 1) (pos 0)) _ within in
-    let below : natural index < slots_in (heap.making_at (class_count s) p.heap x) = subst (λ (n : ℕ). natural index < n) size (grind (arith, nat_tests, low)) in
+    let below : natural index < slots_in (heap.making_at (class_count s) p.heap x) = subst (λ (n : ℕ). natural index < n) size (grind (arith, nat_tests, low))
+    in
     all.slots x (natural index) (record { 0 = o }) made.made made.here below (pointed (slot_of s p x (natural index)) o is)
 
 field_at : (s : StatedSetup) (p : Parts) (x : ℕ) (field : FieldId) (o : ℕ) → AllByRecursion (MakesStated s) p.heap → AllHere s p
@@ -123,7 +127,8 @@ field_at s p x field o stated all is same found =
     all.slots x (slot_place field) (record { 0 = o }) made.made made.here below (pointed (field_value s p x field) o found)
 
 field_named : (s : StatedSetup) (p : Parts) (named : Named) (field : FieldId) (o : ℕ) (a b : Bool) → AllByRecursion (MakesStated s) p.heap → AllHere s p
-    → not (is_stated_as None (field_type s field.class field.field) && is_of_class s p field.class named) ≡ false → object_in named ≡ Some (unwrap_or (object_in named) 0)
+    → not (is_stated_as None (field_type s field.class field.field) && is_of_class s p field.class named) ≡ false
+    → object_in named ≡ Some (unwrap_or (object_in named) 0)
     → target_in (field_value s p (unwrap_or (object_in named) 0) field) ≡ Some o → Here (class_count s) p.heap o
 field_named s p Nothing field o a b stated all right some found = absurd cc
 field_named s p NamesNull field o a b stated all right some found = absurd cc
@@ -143,11 +148,13 @@ HandsHere k e value o = Unit {0}
 abbrev pub AnswersHere : ℕ → List heap.Event → Answer → Type 0
 AnswersHere k e a = HandsHere k e a.reply.value a.object
 
-handed_here : (k : ℕ) (e : List heap.Event) (p : Parts) (t : Tid) (kind : Kind) (found : Option ℕ) → ((o : ℕ) → found ≡ Some o → Here k e o) → AnswersHere k e (handed p t kind found)
+handed_here : (k : ℕ) (e : List heap.Event) (p : Parts) (t : Tid) (kind : Kind) (found : Option ℕ) → ((o : ℕ) → found ≡ Some o → Here k e o)
+    → AnswersHere k e (handed p t kind found)
 handed_here k e p t kind None here = tt
 handed_here k e p t kind (Some o) here = here o refl
 
-raised_here : (k : ℕ) (e : List heap.Event) (found : Option ℕ) → ((o : ℕ) → found ≡ Some o → Here k e o) → AnswersHere k e (saying Done (option_map (λ o. record { 0 = o }) found))
+raised_here : (k : ℕ) (e : List heap.Event) (found : Option ℕ) → ((o : ℕ) → found ≡ Some o → Here k e o)
+    → AnswersHere k e (saying Done (option_map (λ o. record { 0 = o }) found))
 raised_here k e None here = tt
 raised_here k e (Some o) here = here o refl
 
@@ -159,7 +166,8 @@ none_if false e = refl
 reads : (k : ℕ) (e : List heap.Event) (a : Answer) → AnswersHere k e a → AnswersHere k (if_effective (is_effective a.reply.value) [] ++ e) a
 reads k e a here = subst (λ (f : List heap.Event). AnswersHere k f a) (sym (none_if (is_effective a.reply.value) e)) here
 
-found_here : (s : StatedSetup) (p : Parts) (t : Tid) (found : Option ℕ) → ((o : ℕ) → found ≡ Some o → Here (class_count s) p.heap o) → AnswersHere (class_count s) p.heap (class_found s p t found)
+found_here : (s : StatedSetup) (p : Parts) (t : Tid) (found : Option ℕ) → ((o : ℕ) → found ≡ Some o → Here (class_count s) p.heap o)
+    → AnswersHere (class_count s) p.heap (class_found s p t found)
 found_here s p t None here = refl
 found_here s p t (Some c) here = here c refl
 
@@ -183,7 +191,8 @@ env_here : (k : ℕ) (e : List heap.Event) (t : Tid) (n : Option ℕ) → Answer
 env_here k e t None = tt
 env_here k e t (Some n) = tt
 
-outside_here : (s : StatedSetup) (p : Parts) (kind : Thrown) (b : Bool) (a : Answer) → (b ≡ false → AnswersHere (class_count s) p.heap a) → AnswersHere (class_count s) p.heap (or_outside s p kind b a)
+outside_here : (s : StatedSetup) (p : Parts) (kind : Thrown) (b : Bool) (a : Answer) → (b ≡ false → AnswersHere (class_count s) p.heap a)
+    → AnswersHere (class_count s) p.heap (or_outside s p kind b a)
 outside_here s p kind true a here = refl
 outside_here s p kind false a here = here refl
 
@@ -193,17 +202,20 @@ enter_here k e KeptOut = tt
 
 -- a region that is written brings no object, thrown or not
 written_here : (s : StatedSetup) (p : Parts) (b : Bool) (events : List heap.Event)
-    → AnswersHere (class_count s) (if_effective (is_effective (or_outside s p ArrayIndexOutOfBounds b (plain Done)).reply.value) events ++ p.heap) (or_outside s p ArrayIndexOutOfBounds b (plain Done))
+    → AnswersHere (class_count s) (if_effective (is_effective (or_outside s p ArrayIndexOutOfBounds b (plain Done)).reply.value) events ++ p.heap)
+    (or_outside s p ArrayIndexOutOfBounds b (plain Done))
 written_here s p true events = refl
 written_here s p false events = tt
 
-pub answer_here : (s : StatedSetup) (p : Parts) (t : Tid) (env : Option EnvId) (call : Call) → Unbroken s p t.0 env call → AllByRecursion (MakesStated s) p.heap → AllHere s p
+pub answer_here : (s : StatedSetup) (p : Parts) (t : Tid) (env : Option EnvId) (call : Call) → Unbroken s p t.0 env call → AllByRecursion (MakesStated s) p.heap
+    → AllHere s p
     → AnswersHere (class_count s) (if_effective (is_effective (answer s p t call).reply.value) (call_heap s p t.0 call) ++ p.heap) (answer s p t call)
 answer_here s p t env (Vm AttachCurrentThread) kept stated all = tt
 answer_here s p t env (Vm DetachCurrentThread) kept stated all = tt
 answer_here s p t env (Vm GetEnv) kept stated all = reads (class_count s) p.heap (answer s p t (Vm GetEnv)) (env_here (class_count s) p.heap t (session p t.0))
 answer_here s p t env (Vm (NativeEnter class method signature)) kept stated all =
-    reads (class_count s) p.heap (answer s p t (Vm (NativeEnter class method signature))) (admitted_here (class_count s) p.heap s p Link (class_named s class) (handed p t Local (class_named s class))
+    reads (class_count s) p.heap (answer s p t (Vm (NativeEnter class method signature)))
+    (admitted_here (class_count s) p.heap s p Link (class_named s class) (handed p t Local (class_named s class))
     (handed_here (class_count s) p.heap p t Local (class_named s class) (λ o is. class_here (class_count s) p.heap o (class_below s class o is))))
 answer_here s p t env (Vm (NativeLeave r)) kept stated all =
     reads (class_count s) p.heap (answer s p t (Vm (NativeLeave r)))
@@ -216,11 +228,14 @@ answer_here s p t env (Vm (RegisterNatives class method signature)) kept stated 
 answer_here s p t env (Vm (UnregisterNatives class)) kept stated all = tt
 answer_here s p t env (Vm Collect) kept stated all = tt
 answer_here s p t env (Refs (NewLocalRef r)) kept stated all =
-    reads (class_count s) p.heap (answer s p t (Refs (NewLocalRef r))) (handed_here (class_count s) p.heap p t Local (object_named p t.0 r) (λ o is. named_here s p t.0 o r all is))
+    reads (class_count s) p.heap (answer s p t (Refs (NewLocalRef r)))
+    (handed_here (class_count s) p.heap p t Local (object_named p t.0 r) (λ o is. named_here s p t.0 o r all is))
 answer_here s p t env (Refs (NewGlobalRef r)) kept stated all =
-    reads (class_count s) p.heap (answer s p t (Refs (NewGlobalRef r))) (handed_here (class_count s) p.heap p t Global (object_named p t.0 r) (λ o is. named_here s p t.0 o r all is))
+    reads (class_count s) p.heap (answer s p t (Refs (NewGlobalRef r)))
+    (handed_here (class_count s) p.heap p t Global (object_named p t.0 r) (λ o is. named_here s p t.0 o r all is))
 answer_here s p t env (Refs (NewWeakGlobalRef r)) kept stated all =
-    reads (class_count s) p.heap (answer s p t (Refs (NewWeakGlobalRef r))) (handed_here (class_count s) p.heap p t Weak (object_named p t.0 r) (λ o is. named_here s p t.0 o r all is))
+    reads (class_count s) p.heap (answer s p t (Refs (NewWeakGlobalRef r)))
+    (handed_here (class_count s) p.heap p t Weak (object_named p t.0 r) (λ o is. named_here s p t.0 o r all is))
 answer_here s p t env (Refs (DeleteLocalRef r)) kept stated all = tt
 answer_here s p t env (Refs (DeleteGlobalRef r)) kept stated all = tt
 answer_here s p t env (Refs (DeleteWeakGlobalRef r)) kept stated all = tt
@@ -228,17 +243,21 @@ answer_here s p t env (Refs (IsSameObject r u)) kept stated all = tt
 answer_here s p t env (Refs (GetObjectRefType r)) kept stated all = tt
 answer_here s p t env (Frames (PushLocalFrame capacity)) kept stated all = tt
 answer_here s p t env (Frames (PopLocalFrame r)) kept stated all =
-    reads (class_count s) p.heap (answer s p t (Frames (PopLocalFrame r))) (handed_here (class_count s) p.heap p t Local (object_named p t.0 r) (λ o is. named_here s p t.0 o r all is))
+    reads (class_count s) p.heap (answer s p t (Frames (PopLocalFrame r)))
+    (handed_here (class_count s) p.heap p t Local (object_named p t.0 r) (λ o is. named_here s p t.0 o r all is))
 answer_here s p t env (Frames (EnsureLocalCapacity capacity)) kept stated all = tt
 answer_here s p t env (Exceptions (Throw r)) kept stated all =
-    reads (class_count s) p.heap (answer s p t (Exceptions (Throw r))) (raised_here (class_count s) p.heap (object_named p t.0 r) (λ o is. named_here s p t.0 o r all is))
+    reads (class_count s) p.heap (answer s p t (Exceptions (Throw r)))
+    (raised_here (class_count s) p.heap (object_named p t.0 r) (λ o is. named_here s p t.0 o r all is))
 answer_here s p t env (Exceptions ExceptionOccurred) kept stated all =
-    reads (class_count s) p.heap (answer s p t (Exceptions ExceptionOccurred)) (handed_here (class_count s) p.heap p t Local (pending p t.0) (λ o is. all.pending t.0 o is))
+    reads (class_count s) p.heap (answer s p t (Exceptions ExceptionOccurred))
+    (handed_here (class_count s) p.heap p t Local (pending p t.0) (λ o is. all.pending t.0 o is))
 answer_here s p t env (Exceptions ExceptionDescribe) kept stated all = tt
 answer_here s p t env (Exceptions ExceptionClear) kept stated all = tt
 answer_here s p t env (Exceptions ExceptionCheck) kept stated all = tt
 answer_here s p t env (Objects (FindClass name)) kept stated all =
-    reads (class_count s) p.heap (answer s p t (Objects (FindClass name))) (found_here s p t (class_named s name) (λ o is. class_here (class_count s) p.heap o (class_below s name o is)))
+    reads (class_count s) p.heap (answer s p t (Objects (FindClass name)))
+    (found_here s p t (class_named s name) (λ o is. class_here (class_count s) p.heap o (class_below s name o is)))
 answer_here s p t env (Objects (GetObjectClass r)) kept stated all =
     class_here (class_count s) p.heap (class_of s p (the_object p t.0 r)) (class_known (is_here s p (the_object p t.0 r)) s _ (all.known (the_object p t.0 r)))
 answer_here s p t env (Objects (IsInstanceOf r class)) kept stated all = tt
@@ -246,11 +265,14 @@ answer_here s p t env (Objects (AllocObject class)) kept stated all =
     here_new (class_count s) p.heap
     (Plain (the_object p t.0 class) (map first_value (fields_in (class_at s (the_object p t.0 class)))))
 answer_here s p t env (Objects (GetFieldID class field signature)) kept stated all =
-    reads (class_count s) p.heap (answer s p t (Objects (GetFieldID class field signature))) (field_here s p (field_meant s (class_meant s p t.0 class) field signature))
+    reads (class_count s) p.heap (answer s p t (Objects (GetFieldID class field signature)))
+    (field_here s p (field_meant s (class_meant s p t.0 class) field signature))
 answer_here s p t env (Objects (GetField primitive r field)) kept stated all = tt
 answer_here s p t env (Objects (GetObjectField r field)) kept stated all =
-    reads (class_count s) p.heap (answer s p t (Objects (GetObjectField r field))) (handed_here (class_count s) p.heap p t Local (target_in (field_value s p (the_object p t.0 r) field))
-    (λ o is. field_named s p (names p t.0 r) field o false false stated all kept.right_field (the_named (names p t.0 r) false false kept.alive kept.not_null) is))
+    reads (class_count s) p.heap (answer s p t (Objects (GetObjectField r field)))
+    (handed_here (class_count s) p.heap p t Local (target_in (field_value s p (the_object p t.0 r) field))
+    (λ o is. field_named s p (names p t.0 r) field o false false stated all kept.right_field (the_named (names p t.0 r) false false kept.alive kept.not_null)
+    is))
 answer_here s p t env (Objects (SetField primitive r field value)) kept stated all = tt
 answer_here s p t env (Objects (SetObjectField r field value)) kept stated all = tt
 answer_here s p t env (Strings (NewString units)) kept stated all = here_new (class_count s) p.heap (Text (map natural units))
@@ -261,19 +283,25 @@ answer_here s p t env (Strings (GetStringRegion r start n)) kept stated all =
     reads (class_count s) p.heap (answer s p t (Strings (GetStringRegion r start n)))
     (outside_here s p StringIndexOutOfBounds (is_outside start n (length (units_of s p (the_object p t.0 r))))
     (region (map pos (units_of s p (the_object p t.0 r))) start n) (λ is. tt))
-answer_here s p t env (Arrays (NewArray element n)) kept stated all = here_new (class_count s) p.heap (Filled (array_class element) (natural n) (Number (pos 0)))
+answer_here s p t env (Arrays (NewArray element n)) kept stated all =
+    here_new (class_count s) p.heap (Filled (array_class element) (natural n) (Number (pos 0)))
 answer_here s p t env (Arrays (GetArrayLength r)) kept stated all = tt
 answer_here s p t env (Arrays (GetArrayRegion element r start n)) kept stated all =
     reads (class_count s) p.heap (answer s p t (Arrays (GetArrayRegion element r start n)))
     (outside_here s p ArrayIndexOutOfBounds (is_outside start n (length_of s p (the_object p t.0 r)))
     (region (items_of s p (the_object p t.0 r)) start n) (λ is. tt))
-answer_here s p t env (Arrays (SetArrayRegion element r start values)) kept stated all = written_here s p (is_outside start (pos (length values)) (length_of s p (the_object p t.0 r))) _
-answer_here s p t env (Arrays (NewObjectArray n class fill)) kept stated all = here_new (class_count s) p.heap (Filled 3 (natural n) (pointer (object_named p t.0 fill)))
+answer_here s p t env (Arrays (SetArrayRegion element r start values)) kept stated all =
+    written_here s p (is_outside start (pos (length values)) (length_of s p (the_object p t.0 r))) _
+answer_here s p t env (Arrays (NewObjectArray n class fill)) kept stated all =
+    here_new (class_count s) p.heap (Filled 3 (natural n) (pointer (object_named p t.0 fill)))
 answer_here s p t env (Arrays (GetObjectArrayElement r index)) kept stated all =
-    reads (class_count s) p.heap (answer s p t (Arrays (GetObjectArrayElement r index))) (outside_here s p ArrayIndexOutOfBounds (is_outside index (pos 1) (length_of s p (the_object p t.0 r)))
+    reads (class_count s) p.heap (answer s p t (Arrays (GetObjectArrayElement r index)))
+    (outside_here s p ArrayIndexOutOfBounds (is_outside index (pos 1) (length_of s p (the_object p t.0 r)))
     (handed p t Local (target_in (slot_of s p (the_object p t.0 r) (natural index))))
-    (λ within. handed_here (class_count s) p.heap p t Local (target_in (slot_of s p (the_object p t.0 r) (natural index))) (λ o is. element_here s p t.0 env r index o kept all within is)))
-answer_here s p t env (Arrays (SetObjectArrayElement r index value)) kept stated all = written_here s p (is_outside index (pos 1) (length_of s p (the_object p t.0 r))) _
+    (λ within. handed_here (class_count s) p.heap p t Local (target_in (slot_of s p (the_object p t.0 r) (natural index)))
+    (λ o is. element_here s p t.0 env r index o kept all within is)))
+answer_here s p t env (Arrays (SetObjectArrayElement r index value)) kept stated all =
+    written_here s p (is_outside index (pos 1) (length_of s p (the_object p t.0 r))) _
 answer_here s p t env (Monitors (MonitorEnter r)) kept stated all =
     reads (class_count s) p.heap (answer s p t (Monitors (MonitorEnter r)))
     (enter_here (class_count s) p.heap (monitors.entering t.0 (monitors.owner p.monitors (the_object p t.0 r))))
@@ -299,12 +327,14 @@ without_links p = record p { links = [] }
 
 unlinked : (s : StatedSetup) (p q : Parts) → without_links p ≡ without_links q → AllHere s p → AllHere s q
 unlinked s p q same all =
-    let apart : AllHere s (without_links p) = record { locals = all.locals; pending = all.pending; strong = all.strong; weak = all.weak; slots = all.slots; known = all.known } in
+    let apart : AllHere s (without_links p) =
+    record { locals = all.locals; pending = all.pending; strong = all.strong; weak = all.weak; slots = all.slots; known = all.known } in
     let there : AllHere s (without_links q) = subst (λ (r : Parts). AllHere s r) same apart in
     record { locals = there.locals; pending = there.pending; strong = there.strong; weak = there.weak; slots = there.slots; known = there.known }
 
 -- a number is counted
-counted_here : (s : StatedSetup) (q : Parts) (t : ℕ) (a : threads.Act) → ((H : ℕ → Type 0) → RaisesMeet H (a ∷ [])) → AllHere s q → AllHere s (record q { threads = threads.by t a ∷ q.threads })
+counted_here : (s : StatedSetup) (q : Parts) (t : ℕ) (a : threads.Act) → ((H : ℕ → Type 0) → RaisesMeet H (a ∷ [])) → AllHere s q
+    → AllHere s (record q { threads = threads.by t a ∷ q.threads })
 counted_here s q t a raises all =
     let H : ℕ → Type 0 = Here (class_count s) q.heap in
     record {
@@ -340,7 +370,8 @@ made_here s q t kind acts raises all =
       known = known_made k q.heap m (thrown_below s kind) all.known;
     }
 
-settle_here : (s : StatedSetup) (home : Option ℕ) (q : Parts) (t : ℕ) (value : Value) (warned : Bool) (o : Option ObjId) → HandsHere (class_count s) q.heap value o → AllHere s q
+settle_here : (s : StatedSetup) (home : Option ℕ) (q : Parts) (t : ℕ) (value : Value) (warned : Bool) (o : Option ObjId)
+    → HandsHere (class_count s) q.heap value o → AllHere s q
     → AllHere s (settled home t (record { value = value; warned = warned; noticed = false }) o q)
 settle_here s home q t (Reference Null) warned o here all = unlinked s _ _ refl (counted_here s q t threads.CountRef (λ H. tt) all)
 settle_here s home q t (Reference (To Local maker n)) warned None here all = unlinked s _ _ refl (counted_here s q t threads.CountRef (λ H. tt) all)
@@ -382,7 +413,8 @@ settle_here s home q t (Lent b) warned o here all = unlinked s _ _ refl (counted
 settle_here s home q t (Threw kind) warned None here all = unlinked s _ _ refl (made_here s q t kind [] tt all)
 settle_here s home q t (Threw kind) warned (Some o) here all =
     let H : ℕ → Type 0 = Here (class_count s) (heap.Made (Plain (class_thrown kind) []) ∷ q.heap) in
-    unlinked s _ _ refl (made_here s q t kind (threads.Raise o.0 ∷ []) (subst H (sym here) (here_new (class_count s) q.heap (Plain (class_thrown kind) [])), tt) all)
+    unlinked s _ _ refl (made_here s q t kind (threads.Raise o.0 ∷ []) (subst H (sym here) (here_new (class_count s) q.heap (Plain (class_thrown kind) [])), tt)
+    all)
 settle_here s home q t Done warned None here all = unlinked s _ _ refl all
 settle_here s home q t Done warned (Some o) here all =
     let raised : AllHere s (record q { threads = threads.by t (threads.Raise o.0) ∷ q.threads }) = record {
@@ -403,19 +435,22 @@ settle_here s home q t (Listed items) warned o here all = unlinked s _ _ refl al
 settle_here s home q t Busy warned o here all = unlinked s _ _ refl all
 settle_here s home q t NotAttached warned o here all = unlinked s _ _ refl all
 
-done_if_here : (b : Bool) (s : StatedSetup) (p : Parts) (t : ℕ) (env : Option EnvId) (call : Call) → Unbroken s p t env call → AllHere s p → AllHere s (done_if b s t call p)
+done_if_here : (b : Bool) (s : StatedSetup) (p : Parts) (t : ℕ) (env : Option EnvId) (call : Call) → Unbroken s p t env call → AllHere s p
+    → AllHere s (done_if b s t call p)
 done_if_here true s p t env call kept all = done_here s p t env call kept all
 done_if_here false s p t env call kept all = all
 
 -- ---- each legal history
 
-each_here : (s : StatedSetup) (v : Option Rule) (p : Parts) (x : Entry) → verdict s p x.tid.0 x.env x.call ≡ v → AllByRecursion (MakesStated s) p.heap → AllHere s p
+each_here : (s : StatedSetup) (v : Option Rule) (p : Parts) (x : Entry) → verdict s p x.tid.0 x.env x.call ≡ v → AllByRecursion (MakesStated s) p.heap
+    → AllHere s p
     → (y : Entry) → y ≡ entry_by v (answer s p x.tid x.call) x.tid x.env x.call → AllHere s (after s y.tid.0 y.call y.outcome y.object p)
 each_here s (Some rule) p x denied stated all y same = rw same all
 each_here s None p x none stated all y same =
     let kept = unbroken s p x.tid.0 x.env x.call none in
     let a : Answer = answer s p x.tid x.call in
-    rw same (settle_here s (home_of s (native_class s p x.tid.0 x.call)) (done_if (is_effective a.reply.value) s x.tid.0 x.call p) x.tid.0 a.reply.value a.reply.warned a.object
+    rw same (settle_here s (home_of s (native_class s p x.tid.0 x.call)) (done_if (is_effective a.reply.value) s x.tid.0 x.call p) x.tid.0 a.reply.value
+    a.reply.warned a.object
     (answer_here s p x.tid x.env x.call kept stated all) (done_if_here (is_effective a.reply.value) s p x.tid.0 x.env x.call kept all))
 
 pub all_here : (s : StatedSetup) (h : List Entry) → Legal s h → AllHere s (parts s h)

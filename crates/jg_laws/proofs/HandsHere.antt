@@ -70,7 +70,8 @@ made_still : (k : ℕ) (e : List heap.Event) (m : Making) → class_in m < k →
 made_still k e m class slots points =
     record { here = λ o here. here_made k e m o here; slots = slots_made k e m slots points; known = λ are. known_made k e m class are }
 
-wrote_still : (k : ℕ) (e : List heap.Event) (p i : ℕ) (v : Slot) → SlotsMeet k e → ((o : ObjId) → v ≡ Pointer (Some o) → Here k e o.0) → Still k e (heap.Wrote p i v ∷ e)
+wrote_still : (k : ℕ) (e : List heap.Event) (p i : ℕ) (v : Slot) → SlotsMeet k e → ((o : ObjId) → v ≡ Pointer (Some o) → Here k e o.0)
+    → Still k e (heap.Wrote p i v ∷ e)
 wrote_still k e p i v slots points = record { here = λ o here. here; slots = slots_wrote k e p i v slots points; known = λ are. are }
 
 no_plain : (b : Bool) → (false || (b && false)) ≡ true → ⊥
@@ -93,7 +94,8 @@ found_still : (k : ℕ) (values : List ℤ) (found : Option Info) (e : List heap
 found_still k values None e slots = unmoved k e slots
 found_still k values (Some info) e slots = region_still k info.object.0 values 0 e slots
 
-back_still : (b : Bool) (k : ℕ) (values : List ℤ) (found : Option Info) (e : List heap.Event) → SlotsMeet k e → Still k e ((if b then wrote_back values found else []) ++ e)
+back_still : (b : Bool) (k : ℕ) (values : List ℤ) (found : Option Info) (e : List heap.Event) → SlotsMeet k e
+    → Still k e ((if b then wrote_back values found else []) ++ e)
 back_still true k values found e slots = found_still k values found e slots
 back_still false k values found e slots = unmoved k e slots
 
@@ -130,24 +132,31 @@ heap_done s p t env (Objects (AllocObject class)) kept own all =
 heap_done s p t env (Objects (GetFieldID class field signature)) kept own all = unmoved (class_count s) p.heap all.slots
 heap_done s p t env (Objects (GetField primitive r field)) kept own all = unmoved (class_count s) p.heap all.slots
 heap_done s p t env (Objects (GetObjectField r field)) kept own all = unmoved (class_count s) p.heap all.slots
-heap_done s p t env (Objects (SetField primitive r field value)) kept own all = wrote_still (class_count s) p.heap _ _ (Number value) all.slots (λ o is. absurd (number_no value o is))
+heap_done s p t env (Objects (SetField primitive r field value)) kept own all =
+    wrote_still (class_count s) p.heap _ _ (Number value) all.slots (λ o is. absurd (number_no value o is))
 heap_done s p t env (Objects (SetObjectField r field value)) kept own all =
-    wrote_still (class_count s) p.heap _ _ (pointer (object_named p t value)) all.slots (λ o is. named_here s p t o.0 value all (pointer_is (object_named p t value) o is))
-heap_done s p t env (Strings (NewString units)) kept own all = made_still (class_count s) p.heap _ (omega arith) all.slots (λ j o within is. absurd (omega (arith, within)))
-heap_done s p t env (Strings (NewStringUTF bytes)) kept own all = made_still (class_count s) p.heap _ (omega arith) all.slots (λ j o within is. absurd (omega (arith, within)))
+    wrote_still (class_count s) p.heap _ _ (pointer (object_named p t value)) all.slots
+    (λ o is. named_here s p t o.0 value all (pointer_is (object_named p t value) o is))
+heap_done s p t env (Strings (NewString units)) kept own all =
+    made_still (class_count s) p.heap _ (omega arith) all.slots (λ j o within is. absurd (omega (arith, within)))
+heap_done s p t env (Strings (NewStringUTF bytes)) kept own all =
+    made_still (class_count s) p.heap _ (omega arith) all.slots (λ j o within is. absurd (omega (arith, within)))
 heap_done s p t env (Strings (GetStringLength r)) kept own all = unmoved (class_count s) p.heap all.slots
 heap_done s p t env (Strings (GetStringUTFLength r)) kept own all = unmoved (class_count s) p.heap all.slots
 heap_done s p t env (Strings (GetStringRegion r start n)) kept own all = unmoved (class_count s) p.heap all.slots
-heap_done s p t env (Arrays (NewArray element n)) kept own all = made_still (class_count s) p.heap _ (array_below s element) all.slots (λ j o within is. absurd (number_no (pos 0) o is))
+heap_done s p t env (Arrays (NewArray element n)) kept own all =
+    made_still (class_count s) p.heap _ (array_below s element) all.slots (λ j o within is. absurd (number_no (pos 0) o is))
 heap_done s p t env (Arrays (GetArrayLength r)) kept own all = unmoved (class_count s) p.heap all.slots
 heap_done s p t env (Arrays (GetArrayRegion element r start n)) kept own all = unmoved (class_count s) p.heap all.slots
-heap_done s p t env (Arrays (SetArrayRegion element r start values)) kept own all = region_still (class_count s) (the_object p t r) values (natural start) p.heap all.slots
+heap_done s p t env (Arrays (SetArrayRegion element r start values)) kept own all =
+    region_still (class_count s) (the_object p t r) values (natural start) p.heap all.slots
 heap_done s p t env (Arrays (NewObjectArray n class fill)) kept own all =
     made_still (class_count s) p.heap (Filled 3 (natural n) (pointer (object_named p t fill))) (omega arith) all.slots
     (λ j o within is. named_here s p t o.0 fill all (pointer_is (object_named p t fill) o is))
 heap_done s p t env (Arrays (GetObjectArrayElement r index)) kept own all = unmoved (class_count s) p.heap all.slots
 heap_done s p t env (Arrays (SetObjectArrayElement r index value)) kept own all =
-    wrote_still (class_count s) p.heap _ _ (pointer (object_named p t value)) all.slots (λ o is. named_here s p t o.0 value all (pointer_is (object_named p t value) o is))
+    wrote_still (class_count s) p.heap _ _ (pointer (object_named p t value)) all.slots
+    (λ o is. named_here s p t o.0 value all (pointer_is (object_named p t value) o is))
 heap_done s p t env (Monitors call) kept own all = unmoved (class_count s) p.heap all.slots
 heap_done s p t env (Buffers (GetArrayElements element r)) kept own all = unmoved (class_count s) p.heap all.slots
 heap_done s p t env (Buffers (ReleaseArrayElements element r b mode)) kept own all =
@@ -205,12 +214,14 @@ call_makes_none s p t (Monitors call) = refl
 call_makes_none s p t (Buffers call) = refl
 
 -- an operand that must name an object names one
-pub the_named : (named : Named) (a b : Bool) → (is_nothing named || a) ≡ false → ((true && is_null named) || b) ≡ false → object_in named ≡ Some (unwrap_or (object_in named) 0)
+pub the_named : (named : Named) (a b : Bool) → (is_nothing named || a) ≡ false → ((true && is_null named) || b) ≡ false
+    → object_in named ≡ Some (unwrap_or (object_in named) 0)
 the_named Nothing a b alive there = absurd cc
 the_named NamesNull a b alive there = absurd cc
 the_named (Object x) a b alive there = refl
 
-call_raises : (H : ℕ → Type 0) (s : StatedSetup) (p : Parts) (t : ℕ) (env : Option EnvId) (call : Call) → Unbroken s p t env call → ((o : ℕ) (r : Ref) → object_named p t r ≡ Some o → H o)
+call_raises : (H : ℕ → Type 0) (s : StatedSetup) (p : Parts) (t : ℕ) (env : Option EnvId) (call : Call) → Unbroken s p t env call
+    → ((o : ℕ) (r : Ref) → object_named p t r ≡ Some o → H o)
     → RaisesMeet H (call_threads s p t call)
 call_raises H s p t env (Vm AttachCurrentThread) kept named = tt
 call_raises H s p t env (Vm DetachCurrentThread) kept named = tt
@@ -268,7 +279,8 @@ call_makes H s p t (Buffers call) own = tt
 
 -- ---- all that a call does of its own
 
-done_own : (s : StatedSetup) (p : Parts) (t : ℕ) (env : Option EnvId) (call : Call) → is_machine call ≡ false → Unbroken s p t env call → AllHere s p → AllHere s (done_by s t call p)
+done_own : (s : StatedSetup) (p : Parts) (t : ℕ) (env : Option EnvId) (call : Call) → is_machine call ≡ false → Unbroken s p t env call → AllHere s p
+    → AllHere s (done_by s t call p)
 done_own s p t env call own kept all =
     let k : ℕ = class_count s in
     let still = heap_done s p t env call kept own all in
@@ -305,9 +317,11 @@ collects (Arrays call) is = absurd cc
 collects (Monitors call) is = absurd cc
 collects (Buffers call) is = absurd cc
 
-done_by_kind : (b : Bool) (s : StatedSetup) (p : Parts) (t : ℕ) (env : Option EnvId) (call : Call) → is_machine call ≡ b → Unbroken s p t env call → AllHere s p → AllHere s (done_by s t call p)
+done_by_kind : (b : Bool) (s : StatedSetup) (p : Parts) (t : ℕ) (env : Option EnvId) (call : Call) → is_machine call ≡ b → Unbroken s p t env call → AllHere s p
+    → AllHere s (done_by s t call p)
 done_by_kind true s p t env call is kept all = rw (collects call is) (collected_here s p all)
 done_by_kind false s p t env call is kept all = done_own s p t env call is kept all
 
-pub done_here : (s : StatedSetup) (p : Parts) (t : ℕ) (env : Option EnvId) (call : Call) → Unbroken s p t env call → AllHere s p → AllHere s (done_by s t call p)
+pub done_here : (s : StatedSetup) (p : Parts) (t : ℕ) (env : Option EnvId) (call : Call) → Unbroken s p t env call → AllHere s p
+    → AllHere s (done_by s t call p)
 done_here s p t env call kept all = done_by_kind (is_machine call) s p t env call refl kept all

@@ -18,7 +18,8 @@ Here k e o = (o < count_of k e) × (gone_at k e o ≡ false)
 
 -- what the slots of those hold is there, too
 abbrev pub SlotsMeet : ℕ → List Event → Type 0
-SlotsMeet k e = (x j : ℕ) (o : ObjId) → x < count_of k e → gone_at k e x ≡ false → j < slots_in (making_at k e x) → value_at k e x j ≡ Object (Some o) → Here k e o.0
+SlotsMeet k e = (x j : ℕ) (o : ObjId) → x < count_of k e → gone_at k e x ≡ false → j < slots_in (making_at k e x) → value_at k e x j ≡ Object (Some o)
+    → Here k e o.0
 
 -- each object is of a class of the setup
 abbrev pub AreKnown : ℕ → List Event → Type 0
@@ -36,7 +37,8 @@ unmade_if k e roots o past old =
     let none : nat_lt o (count_of k e) ≡ false = grind (arith, nat_tests) in
     rw (old, none) refl
 
-unmade_went : (k : ℕ) (e : List Event) (p o : ℕ) → count_of k e ≤ o → gone_at k e o ≡ false → (gone_at k e o || ((o == p) && (nat_lt o (count_of k e) && not (nat_lt o k)))) ≡ false
+unmade_went : (k : ℕ) (e : List Event) (p o : ℕ) → count_of k e ≤ o → gone_at k e o ≡ false
+    → (gone_at k e o || ((o == p) && (nat_lt o (count_of k e) && not (nat_lt o k)))) ≡ false
 unmade_went k e p o past old =
     let none : nat_lt o (count_of k e) ≡ false = grind (arith, nat_tests) in
     rw (old, none) (both_no (o == p))
@@ -52,7 +54,8 @@ here_new k e m = (omega arith, gone_past k e (count_of k e) (omega arith))
 abbrev pub PointsHere : ℕ → List Event → Making → Type 0
 PointsHere k e m = (j : ℕ) (o : ObjId) → j < slots_in m → slot_in m j ≡ Object (Some o) → Here k e o.0
 
-new_slots : (b : Bool) (k : ℕ) (e : List Event) (m : Making) (x j : ℕ) (o : ObjId) → (x == count_of k e) ≡ b → SlotsMeet k e → PointsHere k e m → x < count_of k e + 1 → gone_at k e x ≡ false
+new_slots : (b : Bool) (k : ℕ) (e : List Event) (m : Making) (x j : ℕ) (o : ObjId) → (x == count_of k e) ≡ b → SlotsMeet k e → PointsHere k e m
+    → x < count_of k e + 1 → gone_at k e x ≡ false
     → j < slots_in (if b then m else making_at k e x) → (if b then slot_in m j else value_at k e x j) ≡ Object (Some o) → Here k e o.0
 new_slots true k e m x j o same old new made gone within is = new j o within is
 new_slots false k e m x j o other old new made gone within is =
@@ -77,7 +80,8 @@ written : (b : Bool) (k : ℕ) (e : List Event) (v w : Slot) (o : ObjId) → (w 
 written true k e v w o old new is = new is
 written false k e v w o old new is = old is
 
-pub slots_wrote : (k : ℕ) (e : List Event) (p i : ℕ) (v : Slot) → SlotsMeet k e → ((o : ObjId) → v ≡ Object (Some o) → Here k e o.0) → SlotsMeet k (Wrote p i v ∷ e)
+pub slots_wrote : (k : ℕ) (e : List Event) (p i : ℕ) (v : Slot) → SlotsMeet k e → ((o : ObjId) → v ≡ Object (Some o) → Here k e o.0)
+    → SlotsMeet k (Wrote p i v ∷ e)
 slots_wrote k e p i v old new x j o made gone within is =
     written ((x == p) && (j == i)) k e v (value_at k e x j) o (old x j o made gone within) (new o) is
 
@@ -121,7 +125,8 @@ here_held : (k : ℕ) (roots : List ℕ) (e : List Event) (o : ℕ) → Here k e
 here_held k roots e o here held = (here.0, stays (gone_at k e o) (nat_lt o (count_of k e)) (held_at k roots e o) here.1 held)
 
 -- what a root holds stays
-pub here_rooted : (k : ℕ) (is_root : ℕ → Bool) (e : List Event) (o : ℕ) → Here k e o → is_root o ≡ true → Here k (Collected (held_objects is_root (count_of k e)) ∷ e) o
+pub here_rooted : (k : ℕ) (is_root : ℕ → Bool) (e : List Event) (o : ℕ) → Here k e o → is_root o ≡ true
+    → Here k (Collected (held_objects is_root (count_of k e)) ∷ e) o
 here_rooted k is_root e o here is =
     here_held k (held_objects is_root (count_of k e)) e o here
     (or_middle (nat_lt o k) (list_any (λ r. r == o) (held_objects is_root (count_of k e))) _ (roots_law is_root (count_of k e) o here.0 ∙ is))
@@ -132,7 +137,8 @@ is_held false true kept is = refl
 is_held false false kept is = absurd cc
 
 -- what isn't among those that go stays
-pub here_kept : (k : ℕ) (roots : List ℕ) (e : List Event) (o : ℕ) → Here k e o → list_any (λ p. p == o) (going k roots e) ≡ false → Here k (Collected roots ∷ e) o
+pub here_kept : (k : ℕ) (roots : List ℕ) (e : List Event) (o : ℕ) → Here k e o → list_any (λ p. p == o) (going k roots e) ≡ false
+    → Here k (Collected roots ∷ e) o
 here_kept k roots e o here kept =
     let f : ℕ → Bool = λ x. not (gone_at k e x) && not (held_at k roots e x) in
     let not_going : f o ≡ false = sym (roots_law f (count_of k e) o here.0) ∙ kept in

@@ -91,7 +91,8 @@ abbrev told_locals : List Act → Bool × ℕ × ℕ
 told_locals la = (has_session la, threads.how_many is_enter (session la), threads.how_many is_leave (session la))
 
 -- acts that change neither sessions nor native methods
-agreed_still : (ta ta' : List threads.Act) (la la' : List Act) → told_threads ta' ≡ told_threads ta → told_locals la' ≡ told_locals la → Agreed ta la → Agreed ta' la'
+agreed_still : (ta ta' : List threads.Act) (la la' : List Act) → told_threads ta' ≡ told_threads ta → told_locals la' ≡ told_locals la → Agreed ta la
+    → Agreed ta' la'
 agreed_still ta ta' la la' same_threads same_locals old = record {
   session = ap (λ x. x.0) same_threads ∙ (old.session ∙ sym (ap (λ x. x.0) same_locals));
   enters = ap (λ x. x.1) same_threads ∙ (old.enters ∙ sym (ap (λ x. x.1) same_locals));
@@ -104,7 +105,8 @@ pub agree_steps : (s : StatedSetup) → Steps s (λ p. (t : ℕ) → Agreed (thr
 agree_steps s = record {
   begins = λ p u is old. agreed_both p.threads p.locals u threads.Attach Start old (begun_here _ _ is (old u));
   begun = λ p u is old. agreed_threads p.threads p.locals u threads.Attach old (attached_again _ _ is (old u));
-  ends = λ p u old. agreed_both p.threads p.locals u threads.Detach End old (record { session = refl; enters = refl; leaves = refl; none_entered = λ off. refl; none_left = λ off. refl });
+  ends = λ p u old. agreed_both p.threads p.locals u threads.Detach End old
+      (record { session = refl; enters = refl; leaves = refl; none_entered = λ off. refl; none_left = λ off. refl });
   enters = λ p u on old. agreed_both p.threads p.locals u threads.Enter Enter old (entered_here _ _ on (old u));
   leaves = λ p u on deep old. agreed_both p.threads p.locals u threads.Leave Leave old (left_here _ _ on (old u));
   to_globals = λ p e none old. old;
@@ -126,7 +128,8 @@ agree_steps s = record {
 
 pub agreed : (s : StatedSetup) (h : List Entry) → Legal s h → (t : ℕ) → Agreed (threads.acts_of t (parts s h).threads) (acts_of t (parts s h).locals)
 agreed s h legal t =
-    let start : (t : ℕ) → Agreed (threads.acts_of t []) (acts_of t []) = λ t. record { session = refl; enters = refl; leaves = refl; none_entered = λ off. refl; none_left = λ off. refl } in
+    let start : (t : ℕ) → Agreed (threads.acts_of t []) (acts_of t []) =
+    λ t. record { session = refl; enters = refl; leaves = refl; none_entered = λ off. refl; none_left = λ off. refl } in
     each_legal (λ p. (t : ℕ) → Agreed (threads.acts_of t p.threads) (acts_of t p.locals)) s (agree_steps s) start h legal t
 
 -- so they agree on the depth
@@ -153,7 +156,8 @@ below_more n m (Leave ∷ acts) le below = below_more n m acts le below
 below_more n m (End ∷ acts) le below = below_more n m acts le below
 
 -- an act that hands out nothing leaves each thread's next number
-pub next_same : (p : Parts) (u : ℕ) (a : threads.Act) → threads.is_count_ref a ≡ false → (t : ℕ) → next_ref (record p { threads = threads.by u a ∷ p.threads }) t ≡ next_ref p t
+pub next_same : (p : Parts) (u : ℕ) (a : threads.Act) → threads.is_count_ref a ≡ false → (t : ℕ)
+    → next_ref (record p { threads = threads.by u a ∷ p.threads }) t ≡ next_ref p t
 next_same p u a quiet t = ap (λ n. n + 1) (refs_same p.threads u a quiet t)
 
 -- an act that makes no local
@@ -166,25 +170,31 @@ below_same p u a keeps old t =
     t
 
 below_quiet : (p : Parts) (u : ℕ) (a : threads.Act) (le : List Event) → threads.is_count_ref a ≡ false
-    → ((t : ℕ) → IsMadeBelow (next_ref p t) (acts_of t le)) → (t : ℕ) → IsMadeBelow (next_ref (record p { threads = threads.by u a ∷ p.threads }) t) (acts_of t le)
+    → ((t : ℕ) → IsMadeBelow (next_ref p t) (acts_of t le)) → (t : ℕ)
+    → IsMadeBelow (next_ref (record p { threads = threads.by u a ∷ p.threads }) t) (acts_of t le)
 below_quiet p u a le quiet old t = rw (next_same p u a quiet t) (old t)
 
 pub next_more : (p : Parts) (u : ℕ) → next_ref (record p { threads = threads.by u threads.CountRef ∷ p.threads }) u ≡ next_ref p u + 1
 next_more p u = rw (did_more u threads.CountRef p.threads) refl
 
-below_counted : (p : Parts) (u : ℕ) → Below p → (t : ℕ) → IsMadeBelow (next_ref (record p { threads = threads.by u threads.CountRef ∷ p.threads }) t) (acts_of t p.locals)
+below_counted : (p : Parts) (u : ℕ) → Below p → (t : ℕ)
+    → IsMadeBelow (next_ref (record p { threads = threads.by u threads.CountRef ∷ p.threads }) t) (acts_of t p.locals)
 below_counted p u old t =
     each_thread (λ v. IsMadeBelow (next_ref (record p { threads = threads.by u threads.CountRef ∷ p.threads }) v) (acts_of v p.locals)) u
-    (subst (λ (n : ℕ). IsMadeBelow n (acts_of u p.locals)) (sym (next_more p u)) (below_more (next_ref p u) (next_ref p u + 1) (acts_of u p.locals) (omega arith) (old u)))
+    (subst (λ (n : ℕ). IsMadeBelow n (acts_of u p.locals)) (sym (next_more p u))
+    (below_more (next_ref p u) (next_ref p u + 1) (acts_of u p.locals) (omega arith) (old u)))
     (λ v differ. rw (did_same v u threads.CountRef p.threads differ) (old v))
     t
 
 below_made : (p : Parts) (u o : ℕ) → Below p → (t : ℕ) → IsMadeBelow (next_ref (record p { threads = threads.by u threads.CountRef ∷ p.threads }) t)
     (acts_of t (by u (Make (next_ref p u) o) ∷ p.locals))
 below_made p u o old t =
-    each_thread (λ v. IsMadeBelow (next_ref (record p { threads = threads.by u threads.CountRef ∷ p.threads }) v) (acts_of v (by u (Make (next_ref p u) o) ∷ p.locals))) u
-    (let made : IsMadeBelow (next_ref p u + 1) (Make (next_ref p u) o ∷ acts_of u p.locals) = (omega arith, below_more (next_ref p u) (next_ref p u + 1) (acts_of u p.locals) (omega arith) (old u)) in
-    rw (acts_more u u (Make (next_ref p u) o) p.locals refl) (subst (λ (n : ℕ). IsMadeBelow n (Make (next_ref p u) o ∷ acts_of u p.locals)) (sym (next_more p u)) made))
+    each_thread (λ v. IsMadeBelow (next_ref (record p { threads = threads.by u threads.CountRef ∷ p.threads }) v)
+    (acts_of v (by u (Make (next_ref p u) o) ∷ p.locals))) u
+    (let made : IsMadeBelow (next_ref p u + 1) (Make (next_ref p u) o ∷ acts_of u p.locals) =
+    (omega arith, below_more (next_ref p u) (next_ref p u + 1) (acts_of u p.locals) (omega arith) (old u)) in
+    rw (acts_more u u (Make (next_ref p u) o) p.locals refl)
+    (subst (λ (n : ℕ). IsMadeBelow n (Make (next_ref p u) o ∷ acts_of u p.locals)) (sym (next_more p u)) made))
     (λ v differ. rw (acts_same v u (Make (next_ref p u) o) p.locals differ, did_same v u threads.CountRef p.threads differ) (old v))
     t
 
@@ -271,7 +281,8 @@ global_none t n (globals.DeleteStrong k i ∷ e) g none below = global_none t n 
 global_none t n (globals.DeleteWeak k i ∷ e) g none below = global_none t n e g none below
 global_none t n (globals.Clear o ∷ e) g none below = global_none t n e g none below
 
-global_quiet : (p : Parts) (u : ℕ) (a : threads.Act) → threads.is_count_ref a ≡ false → GlobalsBelow p → GlobalsBelow (record p { threads = threads.by u a ∷ p.threads })
+global_quiet : (p : Parts) (u : ℕ) (a : threads.Act) → threads.is_count_ref a ≡ false → GlobalsBelow p
+    → GlobalsBelow (record p { threads = threads.by u a ∷ p.threads })
 global_quiet p u a quiet old t = rw (next_same p u a quiet t) (old t)
 
 global_counted : (p : Parts) (u : ℕ) → GlobalsBelow p → GlobalsBelow (record p { threads = threads.by u threads.CountRef ∷ p.threads })
@@ -279,7 +290,8 @@ global_counted p u old t = global_more t (next_ref p t) _ p.globals (counted_at_
 
 -- the number that is handed out now is below its maker's next one
 global_first : (p : Parts) (u n t : ℕ) → n ≡ next_ref p u → u ≡ t → n < next_ref (record p { threads = threads.by u threads.CountRef ∷ p.threads }) t
-global_first p u n t is same = subst (λ (v : ℕ). n < next_ref (record p { threads = threads.by u threads.CountRef ∷ p.threads }) v) same (omega (arith, is, next_more p u))
+global_first p u n t is same =
+    subst (λ (v : ℕ). n < next_ref (record p { threads = threads.by u threads.CountRef ∷ p.threads }) v) same (omega (arith, is, next_more p u))
 
 pub global_steps : (s : StatedSetup) → Steps s GlobalsBelow
 global_steps s = record {

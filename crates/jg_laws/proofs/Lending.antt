@@ -58,7 +58,8 @@ lent_below : (p : Parts) (s : StatedSetup) (u : ℕ) (b : Buffer) → IsLent s p
 lent_below p s u b lent old t =
     each_thread (λ v. IsOpenedBelow v (next_buffer (record p { threads = threads.by u threads.CountBuffer ∷ p.threads }) v) (Opened b ∷ p.buffers)) u (
       (λ own. omega (arith, next_more p u, lent.number)),
-      subst (λ (n : ℕ). IsOpenedBelow u n p.buffers) (sym (next_more p u)) (below_more u (next_buffer p u) (next_buffer p u + 1) p.buffers (omega arith) (old u)),
+      subst (λ (n : ℕ). IsOpenedBelow u n p.buffers) (sym (next_more p u))
+          (below_more u (next_buffer p u) (next_buffer p u + 1) p.buffers (omega arith) (old u)),
     )
     (λ v differ. ((λ own. absurd (differ (sym own ∙ lent.maker))), subst (λ (n : ℕ). IsOpenedBelow v n p.buffers) (sym (next_other p v u differ)) (old v)))
     t
@@ -119,7 +120,8 @@ all_later k new e (Wrote m i j v ∷ bs) all = (tt, all_later k new e bs all.1)
 all_later k new e (Closed m i ∷ bs) all = (tt, all_later k new e bs all.1)
 all_later k new e (ReleaseAll m ∷ bs) all = (tt, all_later k new e bs all.1)
 
-none_fits : (k : ℕ) (e : List heap.Event) (new bs : List Event) → opens_one new ≡ false → AllByRecursion (OpenedFits k e) bs → AllByRecursion (OpenedFits k e) (new ++ bs)
+none_fits : (k : ℕ) (e : List heap.Event) (new bs : List Event) → opens_one new ≡ false → AllByRecursion (OpenedFits k e) bs
+    → AllByRecursion (OpenedFits k e) (new ++ bs)
 none_fits k e [] bs none all = all
 none_fits k e (Opened b ∷ new) bs none all = absurd cc
 none_fits k e (Wrote m i j v ∷ new) bs none all = (tt, none_fits k e new bs none all)
@@ -161,13 +163,16 @@ opened_if : (c : Bool) (k : ℕ) (e : List heap.Event) (b x : Buffer) (rest : Op
 opened_if true k e b x rest fits later is = subst (FitsObject k e) (same_Some x b is) fits
 opened_if false k e b x rest fits later is = later is
 
-closed_if : (c : Bool) (k : ℕ) (e : List heap.Event) (b : Buffer) (rest : Option Buffer) → (rest ≡ Some b → FitsObject k e b) → (if c then None else rest) ≡ Some b → FitsObject k e b
+closed_if : (c : Bool) (k : ℕ) (e : List heap.Event) (b : Buffer) (rest : Option Buffer) → (rest ≡ Some b → FitsObject k e b)
+    → (if c then None else rest) ≡ Some b → FitsObject k e b
 closed_if true k e b rest later is = absurd cc
 closed_if false k e b rest later is = later is
 
-opened_fits : (k : ℕ) (e : List heap.Event) (bs : List Event) (m n : ℕ) (b : Buffer) → AllByRecursion (OpenedFits k e) bs → opened bs m n ≡ Some b → FitsObject k e b
+opened_fits : (k : ℕ) (e : List heap.Event) (bs : List Event) (m n : ℕ) (b : Buffer) → AllByRecursion (OpenedFits k e) bs → opened bs m n ≡ Some b
+    → FitsObject k e b
 opened_fits k e [] m n b all is = absurd cc
-opened_fits k e (Opened x ∷ bs) m n b all is = opened_if (is_same m n x.maker x.n) k e b x (opened bs m n) all.0 (λ rest. opened_fits k e bs m n b all.1 rest) is
+opened_fits k e (Opened x ∷ bs) m n b all is =
+    opened_if (is_same m n x.maker x.n) k e b x (opened bs m n) all.0 (λ rest. opened_fits k e bs m n b all.1 rest) is
 opened_fits k e (Wrote q i j v ∷ bs) m n b all is = opened_fits k e bs m n b all.1 is
 opened_fits k e (Closed q i ∷ bs) m n b all is = closed_if (is_same m n q i) k e b (opened bs m n) (λ rest. opened_fits k e bs m n b all.1 rest) is
 opened_fits k e (ReleaseAll q ∷ bs) m n b all is = opened_fits k e bs m n b all.1 (still_lent (opened bs m n) (q == m) b is).0

@@ -37,16 +37,20 @@ four Int = omega arith
 four Long = omega arith
 
 -- the operand that must name an object names one of this class
-pub is_string : (s : StatedSetup) (p : Parts) (named : Named) → (is_nothing named || false) ≡ false → ((true && is_null named) || false) ≡ false → (is_wrong s p StringObject named || false) ≡ false
+pub is_string : (s : StatedSetup) (p : Parts) (named : Named) → (is_nothing named || false) ≡ false → ((true && is_null named) || false) ≡ false
+    → (is_wrong s p StringObject named || false) ≡ false
     → class_of s p (unwrap_or (object_in named) 0) ≡ 2
-is_string s p named alive there right = eqb-true (class_of s p (unwrap_or (object_in named) 0)) 2 (first_is_of s p StringObject named false false false alive there right)
+is_string s p named alive there right =
+    eqb-true (class_of s p (unwrap_or (object_in named) 0)) 2 (first_is_of s p StringObject named false false false alive there right)
 
-pub elements_fit : (s : StatedSetup) (p : Parts) (t n : ℕ) (element : Primitive) (named : Named) → (is_nothing named || false) ≡ false → ((true && is_null named) || false) ≡ false
+pub elements_fit : (s : StatedSetup) (p : Parts) (t n : ℕ) (element : Primitive) (named : Named) → (is_nothing named || false) ≡ false
+    → ((true && is_null named) || false) ≡ false
     → (is_wrong s p (ArrayOf element) named || false) ≡ false
     → FitsObject (class_count s) p.heap (copy_with t n (unwrap_or (object_in named) 0) (Elements (Of element)) (items_of s p (unwrap_or (object_in named) 0)))
 elements_fit s p t n element named alive there right =
     let o : ℕ = unwrap_or (object_in named) 0 in
-    let is : class_of s p o ≡ array_class element = eqb-true (class_of s p o) (array_class element) (first_is_of s p (ArrayOf element) named false false false alive there right) in
+    let is : class_of s p o ≡ array_class element =
+    eqb-true (class_of s p o) (array_class element) (first_is_of s p (ArrayOf element) named false false false alive there right) in
     let made = made_so s p o (array_class element) is (omega (arith, four element)) in
     (made.made, (made.class, items_of-length s p o))
 
@@ -60,7 +64,8 @@ chars_fit s p t n named alive there right =
 
 pub utf_chars_fit : (s : StatedSetup) (p : Parts) (t n : ℕ) (named : Named) → (is_nothing named || false) ≡ false → ((true && is_null named) || false) ≡ false
     → (is_wrong s p StringObject named || false) ≡ false
-    → FitsObject (class_count s) p.heap (copy_with t n (unwrap_or (object_in named) 0) UtfChars (map pos (spelt (units_of s p (unwrap_or (object_in named) 0)))))
+    → FitsObject (class_count s) p.heap
+    (copy_with t n (unwrap_or (object_in named) 0) UtfChars (map pos (spelt (units_of s p (unwrap_or (object_in named) 0)))))
 utf_chars_fit s p t n named alive there right =
     let o : ℕ = unwrap_or (object_in named) 0 in
     let made = made_so s p o 2 (is_string s p named alive there right) (omega arith) in
@@ -71,18 +76,22 @@ within true true n low high is = (grind (arith, nat_tests, low), grind (arith, n
 within true false n low high is = absurd cc
 within false b n low high is = absurd cc
 
-pub array_critical_fits : (s : StatedSetup) (p : Parts) (t n : ℕ) (r : Ref) (named : Named) → (is_nothing named || false) ≡ false → ((true && is_null named) || false) ≡ false
+pub array_critical_fits : (s : StatedSetup) (p : Parts) (t n : ℕ) (r : Ref) (named : Named) → (is_nothing named || false) ≡ false
+    → ((true && is_null named) || false) ≡ false
     → (is_wrong s p PrimitiveArray named || false) ≡ false
     → FitsObject (class_count s) p.heap (pin_through t n (unwrap_or (object_in named) 0) ArrayCritical r (length_of s p (unwrap_or (object_in named) 0)))
 array_critical_fits s p t n r named alive there right =
     let o : ℕ = unwrap_or (object_in named) 0 in
-    let is = within (nat_le 4 (class_of s p o)) (nat_le (class_of s p o) 9) (class_of s p o) refl refl (first_is_of s p PrimitiveArray named false false false alive there right) in
+    let is = within (nat_le 4 (class_of s p o)) (nat_le (class_of s p o) 9) (class_of s p o) refl refl
+    (first_is_of s p PrimitiveArray named false false false alive there right) in
     let made = made_so s p o (class_of s p o) refl (omega (arith, is.0)) in
     (made.made, (subst IsPrimitiveArray (sym made.class) is, refl))
 
-pub string_critical_fits : (s : StatedSetup) (p : Parts) (t n : ℕ) (r : Ref) (named : Named) → (is_nothing named || false) ≡ false → ((true && is_null named) || false) ≡ false
+pub string_critical_fits : (s : StatedSetup) (p : Parts) (t n : ℕ) (r : Ref) (named : Named) → (is_nothing named || false) ≡ false
+    → ((true && is_null named) || false) ≡ false
     → (is_wrong s p StringObject named || false) ≡ false
-    → FitsObject (class_count s) p.heap (pin_through t n (unwrap_or (object_in named) 0) StringCritical r (length (units_of s p (unwrap_or (object_in named) 0))))
+    → FitsObject (class_count s) p.heap
+    (pin_through t n (unwrap_or (object_in named) 0) StringCritical r (length (units_of s p (unwrap_or (object_in named) 0))))
 string_critical_fits s p t n r named alive there right =
     let o : ℕ = unwrap_or (object_in named) 0 in
     let made = made_so s p o 2 (is_string s p named alive there right) (omega arith) in

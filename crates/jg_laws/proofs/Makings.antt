@@ -98,7 +98,8 @@ call_stated s p t (Arrays (GetObjectArrayElement r index)) = tt
 call_stated s p t (Arrays (SetObjectArrayElement r index value)) = (tt, tt)
 call_stated s p t (Monitors call) = tt
 call_stated s p t (Buffers (GetArrayElements element r)) = tt
-call_stated s p t (Buffers (ReleaseArrayElements element r b mode)) = back_stated s (buffers.contents p.buffers b.maker.0 b.n) (buffer_named p b) (writes_back mode)
+call_stated s p t (Buffers (ReleaseArrayElements element r b mode)) =
+    back_stated s (buffers.contents p.buffers b.maker.0 b.n) (buffer_named p b) (writes_back mode)
 call_stated s p t (Buffers (GetStringChars r)) = tt
 call_stated s p t (Buffers (ReleaseStringChars r b)) = tt
 call_stated s p t (Buffers (GetStringUTFChars r)) = tt

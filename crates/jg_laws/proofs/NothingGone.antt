@@ -49,17 +49,22 @@ strong_named : (H : ℕ → Type 0) (found : Option ℕ) (o : ℕ) → (found �
 strong_named H None o old is = absurd cc
 strong_named H (Some x) o old is = old is
 
-weak_named : (H : ℕ → Type 0) (found : Option Target) (o : ℕ) → ((x : ObjId) → found ≡ Some (ToObject x) → H x.0) → object_in (named_by_target found) ≡ Some o → H o
+weak_named : (H : ℕ → Type 0) (found : Option Target) (o : ℕ) → ((x : ObjId) → found ≡ Some (ToObject x) → H x.0) → object_in (named_by_target found) ≡ Some o
+    → H o
 weak_named H None o old is = absurd cc
 weak_named H (Some (ToObject x)) o old is = subst H (same_Some x.0 o is) (old x refl)
 weak_named H (Some Cleared) o old is = absurd cc
 
-pub reference_here : (s : StatedSetup) (p : Parts) (t o : ℕ) (r : Ref) → LocalsMeet (Here (class_count s) p.heap) p.locals → StrongMeets (Here (class_count s) p.heap) p.globals
+pub reference_here : (s : StatedSetup) (p : Parts) (t o : ℕ) (r : Ref) → LocalsMeet (Here (class_count s) p.heap) p.locals
+    → StrongMeets (Here (class_count s) p.heap) p.globals
     → WeakMeets (Here (class_count s) p.heap) p.globals → object_named p t r ≡ Some o → Here (class_count s) p.heap o
 reference_here s p t o Null locals_meet strong weak is = absurd cc
-reference_here s p t o (To Local maker n) locals_meet strong weak is = locals_meet t n o (local_named (maker.0 == t) (locals.live n (locals.acts_of t p.locals)) o is)
-reference_here s p t o (To Global maker n) locals_meet strong weak is = strong_named (Here (class_count s) p.heap) (globals.strong p.globals maker.0 n) o (strong maker.0 n o) is
-reference_here s p t o (To Weak maker n) locals_meet strong weak is = weak_named (Here (class_count s) p.heap) (globals.weak_target p.globals maker.0 n) o (λ x found. weak maker.0 n x found) is
+reference_here s p t o (To Local maker n) locals_meet strong weak is =
+    locals_meet t n o (local_named (maker.0 == t) (locals.live n (locals.acts_of t p.locals)) o is)
+reference_here s p t o (To Global maker n) locals_meet strong weak is =
+    strong_named (Here (class_count s) p.heap) (globals.strong p.globals maker.0 n) o (strong maker.0 n o) is
+reference_here s p t o (To Weak maker n) locals_meet strong weak is =
+    weak_named (Here (class_count s) p.heap) (globals.weak_target p.globals maker.0 n) o (λ x found. weak maker.0 n x found) is
 
 pub named_here : (s : StatedSetup) (p : Parts) (t o : ℕ) (r : Ref) → AllHere s p → object_named p t r ≡ Some o → Here (class_count s) p.heap o
 named_here s p t o r all is = reference_here s p t o r all.locals all.strong all.weak is
@@ -67,14 +72,17 @@ named_here s p t o r all is = reference_here s p t o r all.locals all.strong all
 -- ---- a collection
 
 -- a clearing leaves global references
-unclear : (objects : List ℕ) (e : List globals.Event) (m n o : ℕ) → globals.strong (map (λ p. globals.Clear p) objects ++ e) m n ≡ Some o → globals.strong e m n ≡ Some o
+unclear : (objects : List ℕ) (e : List globals.Event) (m n o : ℕ) → globals.strong (map (λ p. globals.Clear p) objects ++ e) m n ≡ Some o
+    → globals.strong e m n ≡ Some o
 unclear [] e m n o is = is
 unclear (p ∷ objects) e m n o is = unclear objects e m n o is
 
-pub collected_here : (s : StatedSetup) (p : Parts) → AllHere s p → AllHere s (record p { globals = map (λ o. globals.Clear o) (going s p) ++ p.globals; heap = heap.Collected (roots s p) ∷ p.heap })
+pub collected_here : (s : StatedSetup) (p : Parts) → AllHere s p
+    → AllHere s (record p { globals = map (λ o. globals.Clear o) (going s p) ++ p.globals; heap = heap.Collected (roots s p) ∷ p.heap })
 collected_here s p all =
     let k : ℕ = class_count s in
-    let kept : (o : ℕ) → Here k p.heap o → is_root p o ≡ true → Here k (heap.Collected (roots s p) ∷ p.heap) o = λ o here is. here_rooted k (is_root p) p.heap o here is in
+    let kept : (o : ℕ) → Here k p.heap o → is_root p o ≡ true → Here k (heap.Collected (roots s p) ∷ p.heap) o =
+    λ o here is. here_rooted k (is_root p) p.heap o here is in
     record {
       locals =
           λ t n o is. kept o (all.locals t n o is)

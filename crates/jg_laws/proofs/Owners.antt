@@ -62,7 +62,8 @@ mine_by e t o None is owned = absurd cc
 mine_by e t o (Some v) is owned = owner_has e t o (is ∙ ap Some (by_me t v owned))
 
 -- the object is the one that the operand names, which is neither dead nor null
-mine : (p : Parts) (t : ℕ) (named : Named) (a b : Bool) → (is_nothing named || a) ≡ false → ((true && is_null named) || b) ≡ false → is_not_owned p t (object_in named) ≡ false
+mine : (p : Parts) (t : ℕ) (named : Named) (a b : Bool) → (is_nothing named || a) ≡ false → ((true && is_null named) || b) ≡ false
+    → is_not_owned p t (object_in named) ≡ false
     → 0 < count p.monitors t (unwrap_or (object_in named) 0)
 mine p t Nothing a b alive there owned = absurd cc
 mine p t NamesNull a b alive there owned = absurd cc
@@ -70,7 +71,8 @@ mine p t (Object x) a b alive there owned = mine_by p.monitors t x.0 (owner p.mo
 
 -- ---- a call
 
-done_allowed : (s : StatedSetup) (p : Parts) (t : Tid) (env : Option EnvId) (call : Call) → Unbroken s p t.0 env call → is_effective (answer s p t call).reply.value ≡ true → AllAllowed p.monitors
+done_allowed : (s : StatedSetup) (p : Parts) (t : Tid) (env : Option EnvId) (call : Call) → Unbroken s p t.0 env call
+    → is_effective (answer s p t call).reply.value ≡ true → AllAllowed p.monitors
     → AllAllowed (map (by t.0) (call_monitors s p t.0 call) ++ p.monitors)
 done_allowed s p t env (Vm AttachCurrentThread) kept done old = old
 done_allowed s p t env (Vm DetachCurrentThread) kept done old = (old, tt)
@@ -100,7 +102,8 @@ allowed_if : (b : Bool) (s : StatedSetup) (p : Parts) (t : Tid) (env : Option En
 allowed_if true s p t env call is kept old = done_allowed s p t env call kept is old
 allowed_if false s p t env call is kept old = old
 
-allowed_by : (s : StatedSetup) (v : Option Rule) (p : Parts) (x : Entry) → verdict s p x.tid.0 x.env x.call ≡ v → x ≡ entry_by v (answer s p x.tid x.call) x.tid x.env x.call → AllAllowed p.monitors
+allowed_by : (s : StatedSetup) (v : Option Rule) (p : Parts) (x : Entry) → verdict s p x.tid.0 x.env x.call ≡ v
+    → x ≡ entry_by v (answer s p x.tid x.call) x.tid x.env x.call → AllAllowed p.monitors
     → (y : Entry) → y ≡ entry_by v (answer s p x.tid x.call) x.tid x.env x.call → AllAllowed (after s y.tid.0 y.call y.outcome y.object p).monitors
 allowed_by s (Some rule) p x denied is old y same = rw same old
 allowed_by s None p x none is old y same =

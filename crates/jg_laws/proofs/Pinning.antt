@@ -85,20 +85,25 @@ none_live p [] none old m n b is = old m n b is
 none_live p (Opened x ∷ e) none old m n b is = absurd cc
 none_live p (Wrote k i j v ∷ e) none old m n b is = none_live p e none old m n b is
 none_live p (Closed k i ∷ e) none old m n b is =
-    closed_if (is_same m n k i) b (opened (e ++ p.buffers) m n) (is_critical b.family ≡ true → object_named p b.maker b.via ≡ Some b.object) (none_live p e none old m n b) is
+    closed_if (is_same m n k i) b (opened (e ++ p.buffers) m n) (is_critical b.family ≡ true → object_named p b.maker b.via ≡ Some b.object)
+    (none_live p e none old m n b) is
 none_live p (ReleaseAll k ∷ e) none old m n b is = none_live p e none old m n b (still_lent (opened (e ++ p.buffers) m n) (k == m) b is).0
 
 buffers_live : (s : StatedSetup) (p : Parts) (t : Tid) (env : Option EnvId) (call : BuffersCall) → Unbroken s p t.0 env (Buffers call) → PinsLive p
     → PinsLive (answered s p t (Buffers call) (answer s p t (Buffers call)))
 buffers_live s p t env (GetArrayElements element r) kept old m n b is = lent_live p _ (λ pins. absurd cc) old m n b is
-buffers_live s p t env (ReleaseArrayElements element r buffer mode) kept old m n b is = none_live p (closed_by mode buffer) (closes_none (is_commit mode) buffer) old m n b is
+buffers_live s p t env (ReleaseArrayElements element r buffer mode) kept old m n b is =
+    none_live p (closed_by mode buffer) (closes_none (is_commit mode) buffer) old m n b is
 buffers_live s p t env (GetStringChars r) kept old m n b is = lent_live p _ (λ pins. absurd cc) old m n b is
 buffers_live s p t env (ReleaseStringChars r buffer) kept old m n b is = none_live p (Closed buffer.maker.0 buffer.n ∷ []) refl old m n b is
 buffers_live s p t env (GetStringUTFChars r) kept old m n b is = lent_live p _ (λ pins. absurd cc) old m n b is
 buffers_live s p t env (ReleaseStringUTFChars r buffer) kept old m n b is = none_live p (Closed buffer.maker.0 buffer.n ∷ []) refl old m n b is
-buffers_live s p t env (GetPrimitiveArrayCritical r) kept old m n b is = lent_live p _ (λ pins. the_named (names p t.0 r) false false kept.alive kept.not_null) old m n b is
-buffers_live s p t env (ReleasePrimitiveArrayCritical r buffer mode) kept old m n b is = none_live p (closed_by mode buffer) (closes_none (is_commit mode) buffer) old m n b is
-buffers_live s p t env (GetStringCritical r) kept old m n b is = lent_live p _ (λ pins. the_named (names p t.0 r) false false kept.alive kept.not_null) old m n b is
+buffers_live s p t env (GetPrimitiveArrayCritical r) kept old m n b is =
+    lent_live p _ (λ pins. the_named (names p t.0 r) false false kept.alive kept.not_null) old m n b is
+buffers_live s p t env (ReleasePrimitiveArrayCritical r buffer mode) kept old m n b is =
+    none_live p (closed_by mode buffer) (closes_none (is_commit mode) buffer) old m n b is
+buffers_live s p t env (GetStringCritical r) kept old m n b is =
+    lent_live p _ (λ pins. the_named (names p t.0 r) false false kept.alive kept.not_null) old m n b is
 buffers_live s p t env (ReleaseStringCritical r buffer) kept old m n b is = none_live p (Closed buffer.maker.0 buffer.n ∷ []) refl old m n b is
 buffers_live s p t env (BufferRead buffer index) kept old m n b is = old m n b is
 buffers_live s p t env (BufferWrite buffer index value) kept old m n b is =
@@ -127,12 +132,15 @@ still_if b true x o spared is = absurd cc
 still_if true false x o spared is = absurd (let same : x ≡ o = cc in let none = spared same in cc)
 still_if false false x o spared is = is
 
-still_uncleared : (ev : globals.Event) (later : List globals.Event) (found : Option ℕ) (o : ℕ) → globals.clears o ev ≡ false → target_object (globals.unless_cleared later found) ≡ Some o
+still_uncleared : (ev : globals.Event) (later : List globals.Event) (found : Option ℕ) (o : ℕ) → globals.clears o ev ≡ false
+    → target_object (globals.unless_cleared later found) ≡ Some o
     → target_object (globals.unless_cleared (ev ∷ later) found) ≡ Some o
 still_uncleared ev later None o spared is = absurd cc
-still_uncleared ev later (Some x) o spared is = still_if (globals.clears x ev) (list_any (globals.clears x) later) x o (λ same. ap (λ (y : ℕ). globals.clears y ev) same ∙ spared) is
+still_uncleared ev later (Some x) o spared is =
+    still_if (globals.clears x ev) (list_any (globals.clears x) later) x o (λ same. ap (λ (y : ℕ). globals.clears y ev) same ∙ spared) is
 
-event_still : (kind : Kind) (ev : globals.Event) (e : List globals.Event) (k i o : ℕ) → touches kind k i o ev ≡ false → target_object (kind_target kind e k i) ≡ Some o
+event_still : (kind : Kind) (ev : globals.Event) (e : List globals.Event) (k i o : ℕ) → touches kind k i o ev ≡ false
+    → target_object (kind_target kind e k i) ≡ Some o
     → target_object (kind_target kind (ev ∷ e) k i) ≡ Some o
 event_still Local ev e k i o apart is = absurd cc
 event_still Global (globals.MakeStrong m n x) e k i o apart is = rw apart is
@@ -140,10 +148,14 @@ event_still Global (globals.MakeWeak m n x) e k i o apart is = is
 event_still Global (globals.DeleteStrong m n) e k i o apart is = rw apart is
 event_still Global (globals.DeleteWeak m n) e k i o apart is = is
 event_still Global (globals.Clear x) e k i o apart is = is
-event_still Weak (globals.MakeStrong m n x) e k i o apart is = still_uncleared (globals.MakeStrong m n x) (globals.after_making k i e) (globals.weak e k i) o refl is
-event_still Weak (globals.MakeWeak m n x) e k i o apart is = rw apart (still_uncleared (globals.MakeWeak m n x) (globals.after_making k i e) (globals.weak e k i) o refl is)
-event_still Weak (globals.DeleteStrong m n) e k i o apart is = still_uncleared (globals.DeleteStrong m n) (globals.after_making k i e) (globals.weak e k i) o refl is
-event_still Weak (globals.DeleteWeak m n) e k i o apart is = rw apart (still_uncleared (globals.DeleteWeak m n) (globals.after_making k i e) (globals.weak e k i) o refl is)
+event_still Weak (globals.MakeStrong m n x) e k i o apart is =
+    still_uncleared (globals.MakeStrong m n x) (globals.after_making k i e) (globals.weak e k i) o refl is
+event_still Weak (globals.MakeWeak m n x) e k i o apart is =
+    rw apart (still_uncleared (globals.MakeWeak m n x) (globals.after_making k i e) (globals.weak e k i) o refl is)
+event_still Weak (globals.DeleteStrong m n) e k i o apart is =
+    still_uncleared (globals.DeleteStrong m n) (globals.after_making k i e) (globals.weak e k i) o refl is
+event_still Weak (globals.DeleteWeak m n) e k i o apart is =
+    rw apart (still_uncleared (globals.DeleteWeak m n) (globals.after_making k i e) (globals.weak e k i) o refl is)
 event_still Weak (globals.Clear x) e k i o apart is = still_uncleared (globals.Clear x) (globals.after_making k i e) (globals.weak e k i) o apart is
 
 -- no event of these touches it
@@ -157,14 +169,17 @@ events_still kind [] e k i o leave is = is
 events_still kind (ev ∷ new) e k i o leave is = event_still kind ev (new ++ e) k i o leave.0 (events_still kind new e k i o leave.1 is)
 
 -- a reference that is made has another number
-value_leaves : (kind : Kind) (s : StatedSetup) (p : Parts) (t : Tid) (call : Call) (value : Value) (warned : Bool) (x : Option ObjId) (k i o : ℕ) → IsProper s p t call value warned x
+value_leaves : (kind : Kind) (s : StatedSetup) (p : Parts) (t : Tid) (call : Call) (value : Value) (warned : Bool) (x : Option ObjId) (k i o : ℕ)
+    → IsProper s p t call value warned x
     → i + 1 ≤ next_ref p k → Leave kind k i o (value_globals value x)
 value_leaves Local s p t call (Reference (To Global maker n)) warned (Some x) k i o own below = (refl, tt)
-value_leaves Global s p t call (Reference (To Global maker n)) warned (Some x) k i o own below = (not_same p maker.0 n k i (own.2 ∙ ap (λ (u : Tid). next_ref p u.0) (sym own.1)) below, tt)
+value_leaves Global s p t call (Reference (To Global maker n)) warned (Some x) k i o own below =
+    (not_same p maker.0 n k i (own.2 ∙ ap (λ (u : Tid). next_ref p u.0) (sym own.1)) below, tt)
 value_leaves Weak s p t call (Reference (To Global maker n)) warned (Some x) k i o own below = (refl, tt)
 value_leaves Local s p t call (Reference (To Weak maker n)) warned (Some x) k i o own below = (refl, tt)
 value_leaves Global s p t call (Reference (To Weak maker n)) warned (Some x) k i o own below = (refl, tt)
-value_leaves Weak s p t call (Reference (To Weak maker n)) warned (Some x) k i o own below = (not_same p maker.0 n k i (own.2 ∙ ap (λ (u : Tid). next_ref p u.0) (sym own.1)) below, tt)
+value_leaves Weak s p t call (Reference (To Weak maker n)) warned (Some x) k i o own below =
+    (not_same p maker.0 n k i (own.2 ∙ ap (λ (u : Tid). next_ref p u.0) (sym own.1)) below, tt)
 value_leaves kind s p t call value warned x k i o own below = tt
 
 -- ---- what pins isn't deleted
@@ -183,7 +198,8 @@ other_if true e kind maker m i n is pins free =
     let pinned : buffers.pinned_by e (To kind m n) ≡ true = ap (buffers.pinned_by e) (same_ref kind maker m i n both.0 both.1) ∙ pins in
     absurd cc
 
-other : (e : List Event) (kind : Kind) (maker m : Tid) (i n : ℕ) → buffers.pinned_by e (To kind maker i) ≡ true → buffers.pinned_by e (To kind m n) ≡ false → is_same maker.0 i m.0 n ≡ false
+other : (e : List Event) (kind : Kind) (maker m : Tid) (i n : ℕ) → buffers.pinned_by e (To kind maker i) ≡ true → buffers.pinned_by e (To kind m n) ≡ false
+    → is_same maker.0 i m.0 n ≡ false
 other e kind maker m i n pins free = other_if (is_same maker.0 i m.0 n) e kind maker m i n refl pins free
 
 deletion_leaves : (e : List Event) (kind : Kind) (maker : Tid) (i o : ℕ) (r : Ref)
@@ -204,13 +220,15 @@ held_no : (a b : Bool) → b ≡ true → (not a && not b) ≡ false
 held_no true b is = refl
 held_no false b is = rw is refl
 
-not_going : (s : StatedSetup) (p : Parts) (o : ℕ) → o < heap.count_of (class_count s) p.heap → buffers.pins_object p.buffers o ≡ true → list_any (λ x. x == o) (going s p) ≡ false
+not_going : (s : StatedSetup) (p : Parts) (o : ℕ) → o < heap.count_of (class_count s) p.heap → buffers.pins_object p.buffers o ≡ true
+    → list_any (λ x. x == o) (going s p) ≡ false
 not_going s p o made pinned =
     let k : ℕ = class_count s in
     let root : is_root p o ≡ true =
     or_fourth (locals.holds_object p.locals o) (globals.holds_object p.globals o) (threads.is_pending p.threads o)
     (buffers.pins_object p.buffers o) (monitors.held p.monitors o) pinned in
-    let held : heap.held_at k (roots s p) p.heap o ≡ true = or_middle _ (list_any (λ r. r == o) (roots s p)) _ (roots_law (is_root p) (heap.count_of k p.heap) o made ∙ root) in
+    let held : heap.held_at k (roots s p) p.heap o ≡ true =
+    or_middle _ (list_any (λ r. r == o) (roots s p)) _ (roots_law (is_root p) (heap.count_of k p.heap) o made ∙ root) in
     roots_law (λ x. not (heap.gone_at k p.heap x) && not (heap.held_at k (roots s p) p.heap x)) (heap.count_of k p.heap) o made
     ∙ held_no (heap.gone_at k p.heap o) (heap.held_at k (roots s p) p.heap o) held
 
@@ -268,8 +286,10 @@ local_still s p t call u o maker i differ is =
     let same = acts_apart u t.0 (value_locals a.reply.value a.object) (map (locals.by t.0) own ++ p.locals) differ ∙ acts_apart u t.0 own p.locals differ in
     subst (λ (acts : List locals.Act). object_in (if maker.0 == u then named_by (locals.live i acts) else Nothing) ≡ Some o) (sym same) is
 
-global_still : (kind : Kind) (s : StatedSetup) (p : Parts) (t : Tid) (env : Option EnvId) (call : Call) (maker : Tid) (i o : ℕ) → Unbroken s p t.0 env call → GlobalsBelow p
-    → buffers.pinned_by p.buffers (To kind maker i) ≡ true → list_any (λ x. x == o) (going s p) ≡ false → target_object (kind_target kind p.globals maker.0 i) ≡ Some o
+global_still : (kind : Kind) (s : StatedSetup) (p : Parts) (t : Tid) (env : Option EnvId) (call : Call) (maker : Tid) (i o : ℕ) → Unbroken s p t.0 env call
+    → GlobalsBelow p
+    → buffers.pinned_by p.buffers (To kind maker i) ≡ true → list_any (λ x. x == o) (going s p) ≡ false
+    → target_object (kind_target kind p.globals maker.0 i) ≡ Some o
     → target_object (kind_target kind (answered s p t call (answer s p t call)).globals maker.0 i) ≡ Some o
 global_still kind s p t env call maker i o kept below pins stays is =
     let a : Answer = answer s p t call in
@@ -280,7 +300,8 @@ global_still kind s p t env call maker i o kept below pins stays is =
     (events_still kind (if_effective b (call_globals s p t.0 call)) p.globals maker.0 i o
     (leave_if b kind maker.0 i o (call_globals s p t.0 call) (call_leaves kind s p t.0 env call maker i o kept pins stays)) is)
 
-named_still : (s : StatedSetup) (p : Parts) (t : Tid) (env : Option EnvId) (call : Call) (u o : ℕ) (r : Ref) → Unbroken s p t.0 env call → GlobalsBelow p → u ≢ t.0
+named_still : (s : StatedSetup) (p : Parts) (t : Tid) (env : Option EnvId) (call : Call) (u o : ℕ) (r : Ref) → Unbroken s p t.0 env call → GlobalsBelow p
+    → u ≢ t.0
     → buffers.pinned_by p.buffers r ≡ true → list_any (λ x. x == o) (going s p) ≡ false → object_named p u r ≡ Some o
     → object_named (answered s p t call (answer s p t call)) u r ≡ Some o
 named_still s p t env call u o Null kept below differ pins stays is = absurd cc
@@ -293,8 +314,10 @@ none_if true e = refl
 none_if false e = refl
 
 -- a call that may not be called inside a critical region
-other_live : (s : StatedSetup) (p : Parts) (t : Tid) (env : Option EnvId) (call : Call) → Unbroken s p t.0 env call → call_buffers s p t.0 call ≡ [] → buffers.in_critical p.buffers t.0 ≡ false
-    → GlobalsBelow p → ((m n : ℕ) (b : Buffer) → opened p.buffers m n ≡ Some b → FitsObject (class_count s) p.heap b) → PinsLive p → PinsLive (answered s p t call (answer s p t call))
+other_live : (s : StatedSetup) (p : Parts) (t : Tid) (env : Option EnvId) (call : Call) → Unbroken s p t.0 env call → call_buffers s p t.0 call ≡ []
+    → buffers.in_critical p.buffers t.0 ≡ false
+    → GlobalsBelow p → ((m n : ℕ) (b : Buffer) → opened p.buffers m n ≡ Some b → FitsObject (class_count s) p.heap b) → PinsLive p
+    → PinsLive (answered s p t call (answer s p t call))
 other_live s p t env call kept quiet outside below made old m n b is pins =
     let a : Answer = answer s p t call in
     let same : if_effective (is_effective a.reply.value) (call_buffers s p t.0 call) ++ p.buffers ≡ p.buffers =
@@ -304,14 +327,16 @@ other_live s p t env call kept quiet outside below made old m n b is pins =
     λ mine. clash (buffers.in_critical p.buffers t.0)
     ((critical_law p.buffers t.0).1
     (record { maker = m; n = n; buffer = b; is_open = before; critical = pins; holds = mine })) outside in
-    let by_ref : buffers.pinned_by p.buffers b.via ≡ true = (pinned_law p.buffers b.via).1 (record { maker = m; n = n; buffer = b; is_open = before; critical = pins; holds = refl }) in
+    let by_ref : buffers.pinned_by p.buffers b.via ≡ true =
+    (pinned_law p.buffers b.via).1 (record { maker = m; n = n; buffer = b; is_open = before; critical = pins; holds = refl }) in
     let of_object : buffers.pins_object p.buffers b.object ≡ true =
     (pinned_object_law p.buffers b.object).1
     (record { maker = m; n = n; buffer = b; is_open = before; critical = pins; holds = refl }) in
     named_still s p t env call b.maker b.object b.via kept below apart by_ref (not_going s p b.object (made m n b before).0 of_object) (old m n b before pins)
 
 passed_live : (s : StatedSetup) (p : Parts) (t : Tid) (env : Option EnvId) (call : Call) → Unbroken s p t.0 env call → GlobalsBelow p
-    → ((m n : ℕ) (b : Buffer) → opened p.buffers m n ≡ Some b → FitsObject (class_count s) p.heap b) → PinsLive p → PinsLive (answered s p t call (answer s p t call))
+    → ((m n : ℕ) (b : Buffer) → opened p.buffers m n ≡ Some b → FitsObject (class_count s) p.heap b) → PinsLive p
+    → PinsLive (answered s p t call (answer s p t call))
 passed_live s p t env (Vm call) kept below made old = other_live s p t env (Vm call) kept refl kept.not_critical below made old
 passed_live s p t env (Refs call) kept below made old = other_live s p t env (Refs call) kept refl kept.not_critical below made old
 passed_live s p t env (Frames call) kept below made old = other_live s p t env (Frames call) kept refl kept.not_critical below made old
@@ -329,12 +354,14 @@ live_by : (s : StatedSetup) (v : Option Rule) (p : Parts) (x : Entry) → verdic
     → (y : Entry) → y ≡ entry_by v (answer s p x.tid x.call) x.tid x.env x.call → PinsLive (after s y.tid.0 y.call y.outcome y.object p)
 live_by s (Some rule) p x denied below made old y same = subst (λ (z : Entry). PinsLive (after s z.tid.0 z.call z.outcome z.object p)) (sym same) old
 live_by s None p x none below made old y same =
-    subst (λ (z : Entry). PinsLive (after s z.tid.0 z.call z.outcome z.object p)) (sym same) (passed_live s p x.tid x.env x.call (unbroken s p x.tid.0 x.env x.call none) below made old)
+    subst (λ (z : Entry). PinsLive (after s z.tid.0 z.call z.outcome z.object p)) (sym same)
+    (passed_live s p x.tid x.env x.call (unbroken s p x.tid.0 x.env x.call none) below made old)
 
 pins_live : (s : StatedSetup) (h : List Entry) → Legal s h → PinsLive (parts s h)
 pins_live s [] legal = λ m n b is. absurd cc
 pins_live s (x ∷ h) legal =
-    live_by s (verdict s (parts s h) x.tid.0 x.env x.call) (parts s h) x refl (globals_below s h legal.1) (λ m n b is. buffers_fit s h m n b legal.1 is) (pins_live s h legal.1) x legal.0
+    live_by s (verdict s (parts s h) x.tid.0 x.env x.call) (parts s h) x refl (globals_below s h legal.1) (λ m n b is. buffers_fit s h m n b legal.1 is)
+    (pins_live s h legal.1) x legal.0
 
 pub pins_are_live : PinsAreLive
 pins_are_live s h maker n b legal is pins = pins_live s h legal maker n b is pins

@@ -35,7 +35,8 @@ use Rattle.jg_policy.specs.Classes.{class_named}
 use Rattle.jg_table_heap.specs.Reading.{natural}
 use Rattle.jg_words.specs.declared.value.Thrown.TheVariants.{ArrayIndexOutOfBounds, StringIndexOutOfBounds}
 
-local_proper : (s : StatedSetup) (p : Parts) (t : Tid) (call : Call) (found : Option ℕ) → needs_env (fun_of call) ≡ true → ProperAnswer s p t call (handed p t Local found)
+local_proper : (s : StatedSetup) (p : Parts) (t : Tid) (call : Call) (found : Option ℕ) → needs_env (fun_of call) ≡ true
+    → ProperAnswer s p t call (handed p t Local found)
 local_proper s p t call None env = tt
 local_proper s p t call (Some o) env = (env, refl, refl)
 
@@ -49,7 +50,8 @@ weak_proper : (s : StatedSetup) (p : Parts) (t : Tid) (call : Call) (found : Opt
 weak_proper s p t call None env none = tt
 weak_proper s p t call (Some o) env none = (env, refl, refl, none, refl)
 
-enter_proper : (s : StatedSetup) (p : Parts) (t : Tid) (call : Call) (e : Entering) → needs_env (fun_of call) ≡ true → ProperAnswer s p t call (plain (entered e))
+enter_proper : (s : StatedSetup) (p : Parts) (t : Tid) (call : Call) (e : Entering) → needs_env (fun_of call) ≡ true
+    → ProperAnswer s p t call (plain (entered e))
 enter_proper s p t call Entered env = tt
 enter_proper s p t call Busy env = (env, refl)
 
@@ -57,11 +59,13 @@ env_proper : (s : StatedSetup) (p : Parts) (t : Tid) (call : Call) (n : Option �
 env_proper s p t call None = tt
 env_proper s p t call (Some n) = tt
 
-found_proper : (s : StatedSetup) (p : Parts) (t : Tid) (call : Call) (found : Option ℕ) → needs_env (fun_of call) ≡ true → ProperAnswer s p t call (class_found s p t found)
+found_proper : (s : StatedSetup) (p : Parts) (t : Tid) (call : Call) (found : Option ℕ) → needs_env (fun_of call) ≡ true
+    → ProperAnswer s p t call (class_found s p t found)
 found_proper s p t call None env = (env, refl, refl)
 found_proper s p t call (Some class) env = local_proper s p t call (Some class) env
 
-outside_proper : (s : StatedSetup) (p : Parts) (t : Tid) (call : Call) (kind : Thrown) (b : Bool) (a : Answer) → needs_env (fun_of call) ≡ true → ProperAnswer s p t call a
+outside_proper : (s : StatedSetup) (p : Parts) (t : Tid) (call : Call) (kind : Thrown) (b : Bool) (a : Answer) → needs_env (fun_of call) ≡ true
+    → ProperAnswer s p t call a
     → ProperAnswer s p t call (or_outside s p kind b a)
 outside_proper s p t call kind true a env own = (env, refl, refl)
 outside_proper s p t call kind false a env own = own
@@ -76,11 +80,13 @@ left_proper : (s : StatedSetup) (p : Parts) (t : Tid) (call : Call) (exception f
 left_proper s p t call None found env = local_proper s p t call found env
 left_proper s p t call (Some exception) found env = tt
 
-registered_proper : (s : StatedSetup) (p : Parts) (t : Tid) (call : Call) (class native : Option ℕ) → needs_env (fun_of call) ≡ true → ProperAnswer s p t call (registered s p class native)
+registered_proper : (s : StatedSetup) (p : Parts) (t : Tid) (call : Call) (class native : Option ℕ) → needs_env (fun_of call) ≡ true
+    → ProperAnswer s p t call (registered s p class native)
 registered_proper s p t call class None env = (env, refl, refl)
 registered_proper s p t call class (Some native) env = tt
 
-field_proper : (s : StatedSetup) (p : Parts) (t : Tid) (call : Call) (found : Option FieldId) → needs_env (fun_of call) ≡ true → ProperAnswer s p t call (field_found s p found)
+field_proper : (s : StatedSetup) (p : Parts) (t : Tid) (call : Call) (found : Option FieldId) → needs_env (fun_of call) ≡ true
+    → ProperAnswer s p t call (field_found s p found)
 field_proper s p t call None env = (env, refl, refl)
 field_proper s p t call (Some field) env = tt
 
@@ -93,11 +99,13 @@ pub proper : (s : StatedSetup) (p : Parts) (t : Tid) (call : Call) → ProperAns
 proper s p t (Vm AttachCurrentThread) = tt
 proper s p t (Vm DetachCurrentThread) = tt
 proper s p t (Vm GetEnv) = env_proper s p t (Vm GetEnv) (session p t.0)
-proper s p t (Vm (NativeEnter class method signature)) = entered_proper s p t (Vm (NativeEnter class method signature)) Link (class_named s class) (class_named s class) refl
+proper s p t (Vm (NativeEnter class method signature)) =
+    entered_proper s p t (Vm (NativeEnter class method signature)) Link (class_named s class) (class_named s class) refl
 proper s p t (Vm (NativeLeave kept)) = left_proper s p t (Vm (NativeLeave kept)) (pending p t.0) (object_named p t.0 kept) refl
 proper s p t (Vm (LoadLibrary class library)) = tt
 proper s p t (Vm (RegisterNatives class method signature)) =
-    registered_proper s p t (Vm (RegisterNatives class method signature)) (class_meant s p t.0 class) (native_meant s (class_meant s p t.0 class) method signature) refl
+    registered_proper s p t (Vm (RegisterNatives class method signature)) (class_meant s p t.0 class)
+    (native_meant s (class_meant s p t.0 class) method signature) refl
 proper s p t (Vm (UnregisterNatives class)) = tt
 proper s p t (Vm Collect) = tt
 proper s p t (Refs (NewLocalRef r)) = local_proper s p t (Refs (NewLocalRef r)) (object_named p t.0 r) refl
@@ -123,7 +131,8 @@ proper s p t (Objects (AllocObject class)) = local_proper s p t (Objects (AllocO
 proper s p t (Objects (GetFieldID class field signature)) =
     field_proper s p t (Objects (GetFieldID class field signature)) (field_meant s (class_meant s p t.0 class) field signature) refl
 proper s p t (Objects (GetField primitive r field)) = tt
-proper s p t (Objects (GetObjectField r field)) = local_proper s p t (Objects (GetObjectField r field)) (target_in (field_value s p (the_object p t.0 r) field)) refl
+proper s p t (Objects (GetObjectField r field)) =
+    local_proper s p t (Objects (GetObjectField r field)) (target_in (field_value s p (the_object p t.0 r) field)) refl
 proper s p t (Objects (SetField primitive r field value)) = tt
 proper s p t (Objects (SetObjectField r field value)) = tt
 proper s p t (Strings (NewString units)) = local_proper s p t (Strings (NewString units)) (Some (object_count s p)) refl
@@ -131,20 +140,24 @@ proper s p t (Strings (NewStringUTF bytes)) = local_proper s p t (Strings (NewSt
 proper s p t (Strings (GetStringLength r)) = tt
 proper s p t (Strings (GetStringUTFLength r)) = tt
 proper s p t (Strings (GetStringRegion r start n)) =
-    outside_proper s p t (Strings (GetStringRegion r start n)) StringIndexOutOfBounds (is_outside start n (length (units_of s p (the_object p t.0 r)))) _ refl tt
+    outside_proper s p t (Strings (GetStringRegion r start n)) StringIndexOutOfBounds (is_outside start n (length (units_of s p (the_object p t.0 r)))) _ refl
+    tt
 proper s p t (Arrays (NewArray element n)) = local_proper s p t (Arrays (NewArray element n)) (Some (object_count s p)) refl
 proper s p t (Arrays (GetArrayLength r)) = tt
 proper s p t (Arrays (GetArrayRegion element r start n)) =
     outside_proper s p t (Arrays (GetArrayRegion element r start n)) ArrayIndexOutOfBounds (is_outside start n (length_of s p (the_object p t.0 r))) _ refl tt
 proper s p t (Arrays (SetArrayRegion element r start values)) =
-    outside_proper s p t (Arrays (SetArrayRegion element r start values)) ArrayIndexOutOfBounds (is_outside start (pos (length values)) (length_of s p (the_object p t.0 r))) _ refl tt
+    outside_proper s p t (Arrays (SetArrayRegion element r start values)) ArrayIndexOutOfBounds
+    (is_outside start (pos (length values)) (length_of s p (the_object p t.0 r))) _ refl tt
 proper s p t (Arrays (NewObjectArray n class fill)) = local_proper s p t (Arrays (NewObjectArray n class fill)) (Some (object_count s p)) refl
 proper s p t (Arrays (GetObjectArrayElement r index)) =
     outside_proper s p t (Arrays (GetObjectArrayElement r index)) ArrayIndexOutOfBounds (is_outside index (pos 1) (length_of s p (the_object p t.0 r))) _ refl
     (local_proper s p t (Arrays (GetObjectArrayElement r index)) (target_in (slot_of s p (the_object p t.0 r) (natural index))) refl)
 proper s p t (Arrays (SetObjectArrayElement r index value)) =
-    outside_proper s p t (Arrays (SetObjectArrayElement r index value)) ArrayIndexOutOfBounds (is_outside index (pos 1) (length_of s p (the_object p t.0 r))) _ refl tt
-proper s p t (Monitors (MonitorEnter r)) = enter_proper s p t (Monitors (MonitorEnter r)) (monitors.entering t.0 (monitors.owner p.monitors (the_object p t.0 r))) refl
+    outside_proper s p t (Arrays (SetObjectArrayElement r index value)) ArrayIndexOutOfBounds (is_outside index (pos 1) (length_of s p (the_object p t.0 r))) _
+    refl tt
+proper s p t (Monitors (MonitorEnter r)) =
+    enter_proper s p t (Monitors (MonitorEnter r)) (monitors.entering t.0 (monitors.owner p.monitors (the_object p t.0 r))) refl
 proper s p t (Monitors (MonitorExit r)) = tt
 proper s p t (Buffers (GetArrayElements element r)) = (refl, refl, refl, refl)
 proper s p t (Buffers (ReleaseArrayElements element r b mode)) = tt

@@ -25,7 +25,8 @@ both true true d is = (refl, refl)
 both true false d is = absurd cc
 both false c d is = absurd cc
 
-released_if : (p : Parts) (t : ℕ) (family : Family) (b : BufId) (o : ℕ) (named : Option ℕ) (found : Option Buffer) → opened p.buffers b.maker.0 b.n ≡ found → named ≡ Some o
+released_if : (p : Parts) (t : ℕ) (family : Family) (b : BufId) (o : ℕ) (named : Option ℕ) (found : Option Buffer) → opened p.buffers b.maker.0 b.n ≡ found
+    → named ≡ Some o
     → is_open_and (λ x. is_of_family family x && (is_of_object named x && not (is_anothers t x))) (option_map info_of found) ≡ true → Released p b family o
 released_if p t family b o named None is names_it may = absurd cc
 released_if p t family b o named (Some x) is names_it may =
@@ -38,7 +39,9 @@ released_if p t family b o named (Some x) is names_it may =
       object = eqb-true x.object o own;
     }
 
-pub released : (p : Parts) (t : ℕ) (family : Family) (r : Ref) (b : BufId) → (is_nothing (names p t r) || false) ≡ false → ((true && is_null (names p t r)) || false) ≡ false
+pub released : (p : Parts) (t : ℕ) (family : Family) (r : Ref) (b : BufId) → (is_nothing (names p t r) || false) ≡ false
+    → ((true && is_null (names p t r)) || false) ≡ false
     → not (is_releasable p t family r b) ≡ false → Released p b family (the_object p t r)
 released p t family r b alive there may =
-    released_if p t family b (the_object p t r) (object_named p t r) (opened p.buffers b.maker.0 b.n) refl (the_named (names p t r) false false alive there) (not-false (is_releasable p t family r b) may)
+    released_if p t family b (the_object p t r) (object_named p t r) (opened p.buffers b.maker.0 b.n) refl (the_named (names p t r) false false alive there)
+    (not-false (is_releasable p t family r b) may)

@@ -14,12 +14,14 @@ use Rattle.jg_rules.specs.Answers.{answer}
 use Rattle.jg_rules.specs.Legal.{Legal, entry_at, entry_by, Asked, asked_in, calls_of, history_of}
 use Rattle.jg_laws.specs.Laws.{OneHistoryForTheCalls}
 
-asked_by : (v : Option Rule) (a : Answer) (t : Tid) (env : Option EnvId) (call : Call) → asked_in (entry_by v a t env call) ≡ record { tid = t; env = env; call = call }
+asked_by : (v : Option Rule) (a : Answer) (t : Tid) (env : Option EnvId) (call : Call)
+    → asked_in (entry_by v a t env call) ≡ record { tid = t; env = env; call = call }
 asked_by (Some rule) a t env call = refl
 asked_by None a t env call = refl
 
 -- an entry is of its call
-asked_at : (s : StatedSetup) (p : Parts) (t : Tid) (env : Option EnvId) (call : Call) → asked_in (entry_at s p t env call) ≡ record { tid = t; env = env; call = call }
+asked_at : (s : StatedSetup) (p : Parts) (t : Tid) (env : Option EnvId) (call : Call)
+    → asked_in (entry_at s p t env call) ≡ record { tid = t; env = env; call = call }
 asked_at s p t env call = asked_by (verdict s p t.0 env call) (answer s p t call) t env call
 
 Legal-history_of : (s : StatedSetup) (calls : List Asked) → Legal s (history_of s calls)
@@ -41,9 +43,11 @@ heads c d cs ds is = cc
 tails : (c d : Asked) (cs ds : List Asked) → (c ∷ cs) ≡ (d ∷ ds) → cs ≡ ds
 tails c d cs ds is = cc
 
-one_entry : (s : StatedSetup) (x y : Entry) (g h : List Entry) → x ≡ entry_at s (parts s g) x.tid x.env x.call → y ≡ entry_at s (parts s h) y.tid y.env y.call → asked_in x ≡ asked_in y → g ≡ h → x ≡ y
+one_entry : (s : StatedSetup) (x y : Entry) (g h : List Entry) → x ≡ entry_at s (parts s g) x.tid x.env x.call → y ≡ entry_at s (parts s h) y.tid y.env y.call
+    → asked_in x ≡ asked_in y → g ≡ h → x ≡ y
 one_entry s x y g h xs ys asked same =
-    xs ∙ (ap (λ (q : Asked). entry_at s (parts s g) q.tid q.env q.call) asked ∙ (ap (λ (k : List Entry). entry_at s (parts s k) y.tid y.env y.call) same ∙ sym ys))
+    xs ∙ (ap (λ (q : Asked). entry_at s (parts s g) q.tid q.env q.call) asked
+    ∙ (ap (λ (k : List Entry). entry_at s (parts s k) y.tid y.env y.call) same ∙ sym ys))
 
 -- two legal histories of the same calls are the same
 one_legal : (s : StatedSetup) (g h : List Entry) → Legal s g → Legal s h → calls_of g ≡ calls_of h → g ≡ h

@@ -136,20 +136,23 @@ pub record Small (p : Parts) (k : ℕ) : Type 0 where
   pub locals : length p.locals ≤ 2 * k
   pub monitors : length p.monitors ≤ k
 
-small_after : (s : StatedSetup) (t : ℕ) (call : Call) (outcome : Outcome) (o : Option ObjId) (p : Parts) (k : ℕ) → Small p k → Small (after s t call outcome o p) (k + 1)
+small_after : (s : StatedSetup) (t : ℕ) (call : Call) (outcome : Outcome) (o : Option ObjId) (p : Parts) (k : ℕ) → Small p k
+    → Small (after s t call outcome o p) (k + 1)
 small_after s t call (Passed reply) o p k old =
     let b : Bool = is_effective reply.value in
     let acts = in_front (threads.by t) (value_threads reply.value o) (if_effective b (call_threads s p t call)) p.threads (value_threads-le reply.value o)
     (effective-le b (call_threads s p t call) 1 (call_threads-le s p t call)) in
     let of_locals = in_front (locals.by t) (value_locals reply.value o) (if_effective b (call_locals s p t call)) p.locals (value_locals-le reply.value o)
     (effective-le b (call_locals s p t call) 1 (call_locals-le s p t call)) in
-    let of_monitors = in_front_once (monitors.by t) (if_effective b (call_monitors s p t call)) p.monitors (effective-le b (call_monitors s p t call) 1 (call_monitors-le s p t call)) in
+    let of_monitors = in_front_once (monitors.by t) (if_effective b (call_monitors s p t call)) p.monitors
+    (effective-le b (call_monitors s p t call) 1 (call_monitors-le s p t call)) in
     record {
       threads = omega (arith, acts, old.threads);
       locals = omega (arith, of_locals, old.locals);
       monitors = omega (arith, of_monitors, old.monitors);
     }
-small_after s t call (Denied rule) o p k old = record { threads = omega (arith, old.threads); locals = omega (arith, old.locals); monitors = omega (arith, old.monitors) }
+small_after s t call (Denied rule) o p k old =
+    record { threads = omega (arith, old.threads); locals = omega (arith, old.locals); monitors = omega (arith, old.monitors) }
 
 pub small : (s : StatedSetup) (h : List Entry) → Small (parts s h) (length h)
 small s [] = record { threads = omega arith; locals = omega arith; monitors = omega arith }

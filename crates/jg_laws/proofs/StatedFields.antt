@@ -24,13 +24,16 @@ member_within : (b : Bool) (wanted : Option Primitive) (members : List StatedMem
     → is_stated_as wanted (if b then None else option_map (λ (m : StatedMember). m.signature) (slice_get members (field - 1))) ≡ true
     → (1 ≤ field) × (field - 1 < length members)
 member_within true wanted members field is stated = absurd cc
-member_within false wanted members field is stated = (grind (arith, nat_tests, is), found_within wanted members (field - 1) (slice_get members (field - 1)) refl stated)
+member_within false wanted members field is stated =
+    (grind (arith, nat_tests, is), found_within wanted members (field - 1) (slice_get members (field - 1)) refl stated)
 
-high_if : (b : Bool) (s : StatedSetup) (class n : ℕ) (found : Option StatedClass) → nat_lt class 15 ≡ b → n < length (fields_in (if b then None else found)) → 15 ≤ class
+high_if : (b : Bool) (s : StatedSetup) (class n : ℕ) (found : Option StatedClass) → nat_lt class 15 ≡ b → n < length (fields_in (if b then None else found))
+    → 15 ≤ class
 high_if true s class n found is within = absurd (omega (arith, within))
 high_if false s class n found is within = grind (arith, nat_tests, is)
 
-pub stated_field : (s : StatedSetup) (class field : ℕ) (wanted : Option Primitive) → is_stated_as wanted (field_type s class field) ≡ true → IsStatedField s class field
+pub stated_field : (s : StatedSetup) (class field : ℕ) (wanted : Option Primitive) → is_stated_as wanted (field_type s class field) ≡ true
+    → IsStatedField s class field
 stated_field s class field wanted stated =
     let at_place = member_within (field == 0) wanted (fields_in (class_at s class)) field refl stated in
     record {

@@ -31,7 +31,7 @@ use Rattle.jg_table_monitors.specs.History as monitors
 use Rattle.jg_table_heap.specs.History as heap
 use Rattle.jg_rules.specs.Parts.{Parts, nothing_yet}
 use Rattle.jg_rules.specs.Names.{names, next_ref, next_buffer, open_frames, depth, the_object, length_of, units_of, items_of}
-use Rattle.jg_rules.specs.Access.{native_class, home_of}
+use Rattle.jg_rules.specs.NativeUse.{native_class, home_of}
 use Rattle.jg_rules.specs.Buffers.{buffer_named, is_commit}
 use Rattle.jg_table_heap.specs.Spelling.{spelt}
 use Rattle.jg_table_heap.specs.Reading.{natural}
@@ -71,7 +71,8 @@ pub record Steps (s : StatedSetup) (P : Parts → Type 0) : Type 0 where
   -- of its own, to threads and locals
   pub begins : (p : Parts) (t : ℕ) → threads.attached (threads.acts_of t p.threads) ≡ false → P p
       → P (record p { threads = threads.by t threads.Attach ∷ p.threads; locals = locals.by t locals.Start ∷ p.locals })
-  pub begun : (p : Parts) (t : ℕ) → threads.attached (threads.acts_of t p.threads) ≡ true → P p → P (record p { threads = threads.by t threads.Attach ∷ p.threads })
+  pub begun : (p : Parts) (t : ℕ) → threads.attached (threads.acts_of t p.threads) ≡ true → P p
+      → P (record p { threads = threads.by t threads.Attach ∷ p.threads })
   pub ends : (p : Parts) (t : ℕ) → P p → P (record p { threads = threads.by t threads.Detach ∷ p.threads; locals = locals.by t locals.End ∷ p.locals })
   pub deletes : (p : Parts) (t n : ℕ) → P p → P (record p { locals = locals.by t (locals.Delete n) ∷ p.locals })
   pub pushes : (p : Parts) (t room : ℕ) → P p → P (record p { locals = locals.by t (locals.Push room) ∷ p.locals })
@@ -89,15 +90,19 @@ pub record Steps (s : StatedSetup) (P : Parts → Type 0) : Type 0 where
   pub to_heap : (p : Parts) (e : List heap.Event) → AllByRecursion (MakesStated s) e → P p → P (record p { heap = e ++ p.heap })
   pub to_links : (p : Parts) (e : List links.Event) → P p → P (record p { links = e ++ p.links })
   -- of its answer
-  pub hands : (p : Parts) (t n o : ℕ) → n ≡ next_ref p t → P p → P (record p { threads = threads.by t threads.CountRef ∷ p.threads; locals = locals.by t (locals.Make n o) ∷ p.locals })
-  pub hands_strong : (p : Parts) (t n o : ℕ) → n ≡ next_ref p t → P p → P (record p { threads = threads.by t threads.CountRef ∷ p.threads; globals = globals.MakeStrong t n o ∷ p.globals })
-  pub hands_weak : (p : Parts) (t n o : ℕ) → n ≡ next_ref p t → P p → P (record p { threads = threads.by t threads.CountRef ∷ p.threads; globals = globals.MakeWeak t n o ∷ p.globals })
+  pub hands : (p : Parts) (t n o : ℕ) → n ≡ next_ref p t → P p
+      → P (record p { threads = threads.by t threads.CountRef ∷ p.threads; locals = locals.by t (locals.Make n o) ∷ p.locals })
+  pub hands_strong : (p : Parts) (t n o : ℕ) → n ≡ next_ref p t → P p
+      → P (record p { threads = threads.by t threads.CountRef ∷ p.threads; globals = globals.MakeStrong t n o ∷ p.globals })
+  pub hands_weak : (p : Parts) (t n o : ℕ) → n ≡ next_ref p t → P p
+      → P (record p { threads = threads.by t threads.CountRef ∷ p.threads; globals = globals.MakeWeak t n o ∷ p.globals })
   pub lends : (p : Parts) (t : ℕ) (b : buffers.Buffer) → IsLent s p t b → P p
       → P (record p { threads = threads.by t threads.CountBuffer ∷ p.threads; buffers = buffers.Opened b ∷ p.buffers })
   pub raises : (p : Parts) (t o : ℕ) → P p → P (record p { threads = threads.by t (threads.Raise o) ∷ p.threads })
 
 -- what is said of the objects alone, where their events keep it
-pub heap_steps : (s : StatedSetup) (P : List heap.Event → Type 0) → ((e h : List heap.Event) → AllByRecursion (MakesStated s) e → P h → P (e ++ h)) → Steps s (λ p. P p.heap)
+pub heap_steps : (s : StatedSetup) (P : List heap.Event → Type 0) → ((e h : List heap.Event) → AllByRecursion (MakesStated s) e → P h → P (e ++ h))
+    → Steps s (λ p. P p.heap)
 heap_steps s P kept = record {
   begins = λ p u is old. old;
   begun = λ p u is old. old;
@@ -169,7 +174,8 @@ makes_none s p t (Arrays call) = refl
 makes_none s p t (Monitors call) = refl
 makes_none s p t (Buffers call) = refl
 
-others : (P : Parts → Type 0) (s : StatedSetup) → Steps s P → (t : ℕ) (call : Call) (p q : Parts) → opens_one (call_buffers s p t call) ≡ false → P q → P (elsewhere s t call p q)
+others : (P : Parts → Type 0) (s : StatedSetup) → Steps s P → (t : ℕ) (call : Call) (p q : Parts) → opens_one (call_buffers s p t call) ≡ false → P q
+    → P (elsewhere s t call p q)
 others P s steps t call p q none old =
     let q1 : Parts = record q { globals = call_globals s p t call ++ q.globals } in
     let q2 : Parts = record q1 { buffers = call_buffers s p t call ++ q.buffers } in
@@ -184,7 +190,8 @@ attaching : (P : Parts → Type 0) (s : StatedSetup) → Steps s P → (p : Part
 attaching P s steps p t true is old = steps.begun p t is old
 attaching P s steps p t false is old = steps.begins p t is old
 
-deleting : (P : Parts → Type 0) (s : StatedSetup) → Steps s P → (p : Parts) (t : ℕ) (r : Ref) → P p → P (record p { locals = map (locals.by t) (deletes_local r) ++ p.locals })
+deleting : (P : Parts → Type 0) (s : StatedSetup) → Steps s P → (p : Parts) (t : ℕ) (r : Ref) → P p
+    → P (record p { locals = map (locals.by t) (deletes_local r) ++ p.locals })
 deleting P s steps p t Null old = old
 deleting P s steps p t (To Local maker n) old = steps.deletes p t n old
 deleting P s steps p t (To Global maker n) old = old
@@ -205,7 +212,8 @@ each_done P s steps p t env (Vm (NativeEnter class method signature)) kept none 
 each_done P s steps p t env (Vm (NativeLeave kept_ref)) kept none old =
     steps.leaves p t (attached_caller p t env (Vm (NativeLeave kept_ref)) refl kept.is_attached) kept.right_frame old
 each_done P s steps p t env (Vm (LoadLibrary class library)) kept none old = old
-each_done P s steps p t env (Vm (RegisterNatives class method signature)) kept none old = others P s steps t (Vm (RegisterNatives class method signature)) p p none old
+each_done P s steps p t env (Vm (RegisterNatives class method signature)) kept none old =
+    others P s steps t (Vm (RegisterNatives class method signature)) p p none old
 each_done P s steps p t env (Vm (UnregisterNatives class)) kept none old = others P s steps t (Vm (UnregisterNatives class)) p p none old
 each_done P s steps p t env (Vm Collect) kept none old = others P s steps t (Vm Collect) p p none old
 each_done P s steps p t env (Refs (NewLocalRef r)) kept none old = old
@@ -238,7 +246,8 @@ each_if P s steps false p t env call kept none old = old
 
 -- ---- events of the answer
 
-settling : (P : Parts → Type 0) (s : StatedSetup) → Steps s P → (home : Option ℕ) (p q : Parts) (t : Tid) (call : Call) (value : Value) (warned : Bool) (o : Option ObjId)
+settling : (P : Parts → Type 0) (s : StatedSetup) → Steps s P
+    → (home : Option ℕ) (p q : Parts) (t : Tid) (call : Call) (value : Value) (warned : Bool) (o : Option ObjId)
     → IsProper s p t call value warned o → next_ref q t.0 ≡ next_ref p t.0 → opens_one (call_buffers s p t.0 call) ≡ false
     → P q → P (settled home t.0 (record { value = value; warned = false; noticed = false }) o q)
 settling P s steps home p q t call (Reference r) warned None is same none old = absurd is
@@ -258,14 +267,16 @@ settling P s steps home p q t call Done warned (Some o) is same none old = steps
 settling P s steps home p q t call value warned o is same none old = old
 
 -- a call that opens no buffer
-each_other : (P : Parts → Type 0) (s : StatedSetup) → Steps s P → (p : Parts) (t : Tid) (env : Option EnvId) (call : Call) → Unbroken s p t.0 env call → opens_one (call_buffers s p t.0 call) ≡ false
+each_other : (P : Parts → Type 0) (s : StatedSetup) → Steps s P → (p : Parts) (t : Tid) (env : Option EnvId) (call : Call) → Unbroken s p t.0 env call
+    → opens_one (call_buffers s p t.0 call) ≡ false
     → P p → P (answered s p t call (answer s p t call))
 each_other P s steps p t env call kept none old =
     let a : Answer = answer s p t call in
     let q : Parts = done_if (is_effective a.reply.value) s t.0 call p in
     let home : Option ℕ = home_of s (native_class s p t.0 call) in
     steps.to_links (settled home t.0 (record { value = a.reply.value; warned = false; noticed = false }) a.object q) (warning a.reply.warned home)
-    (settling P s steps home p q t call a.reply.value a.reply.warned a.object (proper s p t call) (next_done_if (is_effective a.reply.value) s p t.0 call t.0) none
+    (settling P s steps home p q t call a.reply.value a.reply.warned a.object (proper s p t call) (next_done_if (is_effective a.reply.value) s p t.0 call t.0)
+    none
     (each_if P s steps (is_effective a.reply.value) p t.0 env call kept none old))
 
 pub closes_none : (commits : Bool) (b : BufId) → opens_one (if commits then [] else closed b) ≡ false
@@ -280,11 +291,13 @@ pub writes_none : (b : BufId) (index : ℕ) (v : ℤ) (found : Option Info) → 
 writes_none b index v None = refl
 writes_none b index v (Some info) = writes_if (buffers.is_critical info.family) b.maker.0 b.n index v
 
-buffers_passed : (P : Parts → Type 0) (s : StatedSetup) → Steps s P → (p : Parts) (t : Tid) (env : Option EnvId) (call : BuffersCall) → Unbroken s p t.0 env (Buffers call) → P p
+buffers_passed : (P : Parts → Type 0) (s : StatedSetup) → Steps s P → (p : Parts) (t : Tid) (env : Option EnvId) (call : BuffersCall)
+    → Unbroken s p t.0 env (Buffers call) → P p
     → P (answered s p t (Buffers call) (answer s p t (Buffers call)))
 buffers_passed P s steps p t env (GetArrayElements element r) kept old =
     steps.lends p t.0 (buffers.copy_with t.0 (next_buffer p t.0) (the_object p t.0 r) (Elements (Of element)) (items_of s p (the_object p t.0 r)))
-    (record { maker = refl; number = refl; fits = elements_fit s p t.0 (next_buffer p t.0) element (names p t.0 r) kept.alive kept.not_null kept.right_type }) old
+    (record { maker = refl; number = refl; fits = elements_fit s p t.0 (next_buffer p t.0) element (names p t.0 r) kept.alive kept.not_null kept.right_type })
+    old
 buffers_passed P s steps p t env (ReleaseArrayElements element r b mode) kept old =
     each_other P s steps p t env (Buffers (ReleaseArrayElements element r b mode)) kept (closes_none (is_commit mode) b) old
 buffers_passed P s steps p t env (GetStringChars r) kept old =
@@ -297,12 +310,14 @@ buffers_passed P s steps p t env (GetStringUTFChars r) kept old =
 buffers_passed P s steps p t env (ReleaseStringUTFChars r b) kept old = each_other P s steps p t env (Buffers (ReleaseStringUTFChars r b)) kept refl old
 buffers_passed P s steps p t env (GetPrimitiveArrayCritical r) kept old =
     steps.lends p t.0 (buffers.pin_through t.0 (next_buffer p t.0) (the_object p t.0 r) ArrayCritical r (length_of s p (the_object p t.0 r)))
-    (record { maker = refl; number = refl; fits = array_critical_fits s p t.0 (next_buffer p t.0) r (names p t.0 r) kept.alive kept.not_null kept.right_type }) old
+    (record { maker = refl; number = refl; fits = array_critical_fits s p t.0 (next_buffer p t.0) r (names p t.0 r) kept.alive kept.not_null kept.right_type })
+    old
 buffers_passed P s steps p t env (ReleasePrimitiveArrayCritical r b mode) kept old =
     each_other P s steps p t env (Buffers (ReleasePrimitiveArrayCritical r b mode)) kept (closes_none (is_commit mode) b) old
 buffers_passed P s steps p t env (GetStringCritical r) kept old =
     steps.lends p t.0 (buffers.pin_through t.0 (next_buffer p t.0) (the_object p t.0 r) StringCritical r (length (units_of s p (the_object p t.0 r))))
-    (record { maker = refl; number = refl; fits = string_critical_fits s p t.0 (next_buffer p t.0) r (names p t.0 r) kept.alive kept.not_null kept.right_type }) old
+    (record { maker = refl; number = refl; fits = string_critical_fits s p t.0 (next_buffer p t.0) r (names p t.0 r) kept.alive kept.not_null kept.right_type })
+    old
 buffers_passed P s steps p t env (ReleaseStringCritical r b) kept old = each_other P s steps p t env (Buffers (ReleaseStringCritical r b)) kept refl old
 buffers_passed P s steps p t env (BufferRead b index) kept old = each_other P s steps p t env (Buffers (BufferRead b index)) kept refl old
 buffers_passed P s steps p t env (BufferWrite b index value) kept old =
@@ -320,13 +335,15 @@ each_passed P s steps p t env (Arrays call) kept old = each_other P s steps p t 
 each_passed P s steps p t env (Monitors call) kept old = each_other P s steps p t env (Monitors call) kept refl old
 each_passed P s steps p t env (Buffers call) kept old = buffers_passed P s steps p t env call kept old
 
-each_by : (P : Parts → Type 0) (s : StatedSetup) → Steps s P → (v : Option Rule) (p : Parts) (t : Tid) (env : Option EnvId) (call : Call) → verdict s p t.0 env call ≡ v → P p
+each_by : (P : Parts → Type 0) (s : StatedSetup) → Steps s P → (v : Option Rule) (p : Parts) (t : Tid) (env : Option EnvId) (call : Call)
+    → verdict s p t.0 env call ≡ v → P p
     → (x : Entry) → x ≡ entry_by v (answer s p t call) t env call → P (after s x.tid.0 x.call x.outcome x.object p)
 each_by P s steps (Some rule) p t env call denied old x is = rw is old
 each_by P s steps None p t env call none old x is = rw is (each_passed P s steps p t env call (unbroken s p t.0 env call none) old)
 
 -- an entry that its call has at p keeps what the events keep
-pub each_entry : (P : Parts → Type 0) (s : StatedSetup) → Steps s P → (p : Parts) (x : Entry) → x ≡ entry_at s p x.tid x.env x.call → P p → P (after s x.tid.0 x.call x.outcome x.object p)
+pub each_entry : (P : Parts → Type 0) (s : StatedSetup) → Steps s P → (p : Parts) (x : Entry) → x ≡ entry_at s p x.tid x.env x.call → P p
+    → P (after s x.tid.0 x.call x.outcome x.object p)
 each_entry P s steps p x is old = each_by P s steps (verdict s p x.tid.0 x.env x.call) p x.tid x.env x.call refl old x is
 
 -- what the events keep, each legal history has

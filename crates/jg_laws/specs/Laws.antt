@@ -28,7 +28,7 @@ use Rattle.jg_table_monitors.specs.History as monitors
 use Rattle.jg_rules.specs.Parts.{Parts}
 use Rattle.jg_rules.specs.Names.{object_named, next_ref, class_of, length_of, native_meant}
 use Rattle.jg_policy.specs.declared.access.Operation.TheVariants.{Link}
-use Rattle.jg_rules.specs.Access.{refuses}
+use Rattle.jg_rules.specs.NativeUse.{refuses}
 use Rattle.jg_rules.specs.Rules.{is_linked}
 use Rattle.jg_rules.specs.Effects.{parts}
 use Rattle.jg_rules.specs.Legal.{Legal, Asked, history_of}

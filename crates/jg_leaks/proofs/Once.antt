@@ -42,7 +42,8 @@ module _ {A : Type 0} (p : A → Bool) where
   counted_filter [] = refl
   counted_filter (x ∷ xs) = by (p x) (counted_filter xs)
     where
-      by : (b : Bool) → how_many p xs ≡ length (filter p xs) → (if b then how_many p xs + 1 else how_many p xs) ≡ length (if b then x ∷ filter p xs else filter p xs)
+      by : (b : Bool) → how_many p xs ≡ length (filter p xs)
+          → (if b then how_many p xs + 1 else how_many p xs) ≡ length (if b then x ∷ filter p xs else filter p xs)
       by true h = omega arith
       by false h = h
 
@@ -88,15 +89,18 @@ module _ {Store : Type 0} (rows : RowsBeside Store) (p : Parts) (stands : Holder
   pub all_listed : ListsRefs p (refs_of rows)
   all_listed Null = in_three Null 0 0 0 (counted_none rows.locals.locals) (counted_none rows.globals.strong) (counted_none rows.globals.weak)
   all_listed (To Local m n) =
-      let one = counted_filter (is_local m.0 n) rows.locals.locals ∙ ap length (stands.locals.locals m.0 n) ∙ local_rows_once m.0 (locals.live_local n (locals.acts_of m.0 p.locals)) in
+      let one = counted_filter (is_local m.0 n) rows.locals.locals ∙ ap length (stands.locals.locals m.0 n)
+      ∙ local_rows_once m.0 (locals.live_local n (locals.acts_of m.0 p.locals)) in
       let all = in_three (To Local m n) _ 0 0 one (counted_none rows.globals.strong) (counted_none rows.globals.weak) in
       omega arith
   all_listed (To Global m n) =
-      let one = counted_filter (is_strong m.0 n) rows.globals.strong ∙ ap length (stands.globals.strong m.0 n) ∙ strong_rows_once m.0 n (globals.strong p.globals m.0 n) in
+      let one = counted_filter (is_strong m.0 n) rows.globals.strong ∙ ap length (stands.globals.strong m.0 n)
+      ∙ strong_rows_once m.0 n (globals.strong p.globals m.0 n) in
       let all = in_three (To Global m n) 0 _ 0 (counted_none rows.locals.locals) one (counted_none rows.globals.weak) in
       omega arith
   all_listed (To Weak m n) =
-      let one = counted_filter (is_weak m.0 n) rows.globals.weak ∙ ap length (stands.globals.weak m.0 n) ∙ weak_rows_once m.0 n (globals.weak_target p.globals m.0 n) in
+      let one = counted_filter (is_weak m.0 n) rows.globals.weak ∙ ap length (stands.globals.weak m.0 n)
+      ∙ weak_rows_once m.0 n (globals.weak_target p.globals m.0 n) in
       let all = in_three (To Weak m n) 0 0 _ (counted_none rows.locals.locals) (counted_none rows.globals.strong) one in
       omega arith
 
@@ -108,7 +112,8 @@ module _ {Store : Type 0} (rows : RowsBeside Store) (p : Parts) (stands : Holder
 
   pub buffers_listed : ListsBuffers p (map name_of rows.buffers.lent)
   buffers_listed m n =
-      how_many-map (λ (b : BufId). is_same m n b.maker.0 b.n) name_of rows.buffers.lent ∙ counted_filter (is_buffer m n) rows.buffers.lent ∙ ap length (stands.buffers m n)
+      how_many-map (λ (b : BufId). is_same m n b.maker.0 b.n) name_of rows.buffers.lent ∙ counted_filter (is_buffer m n) rows.buffers.lent
+      ∙ ap length (stands.buffers m n)
       ∙ once (opened p.buffers m n)
     where
       once : (b : Option Buffer) → length (buffer_standing.rows_of p.buffers m n b) ≡ once_if (is_some b)
@@ -122,7 +127,8 @@ module _ {Store : Type 0} (rows : RowsBeside Store) (p : Parts) (stands : Holder
   -- ---- monitors
 
   -- each list that has of each object what the rows have
-  pub monitors_listed : (listed : List OwnedMonitor) → ((o : ℕ) → filter (λ m. m.object.0 == o) listed ≡ map owned_monitor (filter (is_of o) rows.monitors.owned))
+  pub monitors_listed : (listed : List OwnedMonitor)
+      → ((o : ℕ) → filter (λ m. m.object.0 == o) listed ≡ map owned_monitor (filter (is_of o) rows.monitors.owned))
       → ListsMonitors p listed
   monitors_listed listed same o = same o ∙ ap (map owned_monitor) (stands.monitors.owned o) ∙ one (monitors.owner p.monitors o)
     where

@@ -6,11 +6,13 @@ use Rattle.std.proofs.lemmas.Bool.{ne_eqb}
 use Rattle.std.proofs.lemmas.List.Elements.{All-append, All-cons, All-nil}
 use Rattle.jg_lines.specs.Devices.{IsOneLine, TakesFront}
 
-pub with_feed : (old mid new : Option (List ℕ)) (line : List ℕ) → Consumes old mid line → Consumes mid new (10 ∷ []) → IsOneLine line → length line < 65537 → TakesFront old new
+pub with_feed : (old mid new : Option (List ℕ)) (line : List ℕ) → Consumes old mid line → Consumes mid new (10 ∷ []) → IsOneLine line → length line < 65537
+    → TakesFront old new
 with_feed old mid new line taken more clean short =
     (line ++ 10 ∷ [], (line, clean, inr refl, omega (arith, length-append line (10 ∷ []), short)), Consumes-trans old mid new line (10 ∷ []) taken more)
 
-pub with_byte : (old mid new : Option (List ℕ)) (line : List ℕ) (byte : ℕ) → Consumes old mid line → Consumes mid new (byte ∷ []) → byte ≢ 10 → IsOneLine line → length line < 65537
+pub with_byte : (old mid new : Option (List ℕ)) (line : List ℕ) (byte : ℕ) → Consumes old mid line → Consumes mid new (byte ∷ []) → byte ≢ 10 → IsOneLine line
+    → length line < 65537
     → TakesFront old new
 with_byte old mid new line byte taken more other clean short =
     let one = All-cons (λ b. (b == 10) ≡ false) byte [] (ne_eqb byte 10 other) (All-nil (λ b. (b == 10) ≡ false)) in (

@@ -33,7 +33,8 @@ line_taken None new line e clean = tt
 line_taken (Some text) None line e clean = absurd e
 line_taken (Some text) (Some rest) line e clean = ap lines_of (e ∙ append_assoc line (10 ∷ []) rest) ∙ first_line line rest clean
 
-pub last_taken : (old new : Option (List ℕ)) (line : List ℕ) → Consumes old new line → IsAtEnd new → IsOneLine line → 0 < length line → LinesTaken old new (line ∷ [])
+pub last_taken : (old new : Option (List ℕ)) (line : List ℕ) → Consumes old new line → IsAtEnd new → IsOneLine line → 0 < length line
+    → LinesTaken old new (line ∷ [])
 last_taken None new line e done clean some = tt
 last_taken (Some text) None line e done clean some = absurd e
 last_taken (Some text) (Some rest) line e done clean some =
@@ -51,7 +52,8 @@ lines_more (Some ta) (Some tb) None xs ys p q = absurd q
 lines_more (Some ta) (Some tb) (Some tc) xs ys p q = p ∙ ap (λ zs. xs ++ zs) q ∙ sym (append_assoc xs ys (lines_of tc))
 
 -- a text goes on with what doesn't end its first piece
-long_first : (xs rest : List ℕ) (q : List ℕ) (ps : List (List ℕ)) → AllByRecursion (λ b. is_feed b ≡ false) xs → slice_split is_feed rest ≡ q ∷ ps → slice_split is_feed (xs ++ rest) ≡ (xs ++ q) ∷ ps
+long_first : (xs rest : List ℕ) (q : List ℕ) (ps : List (List ℕ)) → AllByRecursion (λ b. is_feed b ≡ false) xs → slice_split is_feed rest ≡ q ∷ ps
+    → slice_split is_feed (xs ++ rest) ≡ (xs ++ q) ∷ ps
 long_first [] rest q ps clean e = e
 long_first (x ∷ xs) rest q ps clean e =
     slice_split-cons_no is_feed x (xs ++ rest) clean.0 ∙ ap (onto_first x) (long_first xs rest q ps clean.1 e)
@@ -65,7 +67,8 @@ wel_first x [] h = ([], wel_one x h)
 wel_first x (p ∷ ps) h = (without_empty_last (p ∷ ps), refl)
 
 -- a front of the first line is too long, so the line is
-long_line : (front rest q : List ℕ) (ps : List (List ℕ)) → slice_split is_feed rest ≡ q ∷ ps → IsOneLine front → length front ≡ 65537 → BeginsTooLong (Some (front ++ rest))
+long_line : (front rest q : List ℕ) (ps : List (List ℕ)) → slice_split is_feed rest ≡ q ∷ ps → IsOneLine front → length front ≡ 65537
+    → BeginsTooLong (Some (front ++ rest))
 long_line front rest q ps split clean long =
     let len = length-append front q in
     let more = wel_first (front ++ q) ps (omega arith) in
@@ -79,7 +82,8 @@ too_long (Some text) (Some rest) line e clean long =
     subst (λ (t : List ℕ). BeginsTooLong (Some t)) (sym e) (long_line line rest parts.0 parts.1 parts.2 clean long)
 
 -- what is known of the lines taken
-pub followed : (a c : Option (List ℕ)) (xs : List (List ℕ)) (line : List ℕ) (P : List ℕ → Type 0) → LinesTaken a c (xs ++ line ∷ []) → P line → AreFollowedBy a xs P
+pub followed : (a c : Option (List ℕ)) (xs : List (List ℕ)) (line : List ℕ) (P : List ℕ → Type 0) → LinesTaken a c (xs ++ line ∷ []) → P line
+    → AreFollowedBy a xs P
 followed None c xs line P e p = tt
 followed (Some text) None xs line P e p = absurd e
 followed (Some text) (Some rest) xs line P e p = (line, lines_of rest, e ∙ append_assoc xs (line ∷ []) (lines_of rest), p)
@@ -99,7 +103,8 @@ ended None c xs e done = tt
 ended (Some text) None xs e done = absurd e
 ended (Some text) (Some rest) xs e done = e ∙ ap (λ r. xs ++ lines_of r) done ∙ append-nil xs
 
-pub followed_by_more : (a : Option (List ℕ)) (xs : List (List ℕ)) (P Q : List ℕ → Type 0) → ((next : List ℕ) → P next → Q next) → AreFollowedBy a xs P → AreFollowedBy a xs Q
+pub followed_by_more : (a : Option (List ℕ)) (xs : List (List ℕ)) (P Q : List ℕ → Type 0) → ((next : List ℕ) → P next → Q next) → AreFollowedBy a xs P
+    → AreFollowedBy a xs Q
 followed_by_more None xs P Q f p = tt
 followed_by_more (Some text) xs P Q f (next, more, split, p) = (next, more, split, f next p)
 

@@ -27,7 +27,8 @@ pub each_thread : (P : ℕ → Type 0) (u : ℕ) → P u → ((t : ℕ) → t �
 each_thread P u here others t = at_thread P u here others t (eqb u t) refl
 
 -- a claim on what each thread did, after one more act
-pub each_acted : {Act : Type 0} (P : ℕ → List Act → Type 0) (u : ℕ) (a : Act) (e : List (Event Act)) → ((t : ℕ) → t ≢ u → P t (acts_of t e)) → P u (a ∷ acts_of u e)
+pub each_acted : {Act : Type 0} (P : ℕ → List Act → Type 0) (u : ℕ) (a : Act) (e : List (Event Act)) → ((t : ℕ) → t ≢ u → P t (acts_of t e))
+    → P u (a ∷ acts_of u e)
     → (t : ℕ) → P t (acts_of t (by u a ∷ e))
 each_acted P u a e others here t =
     each_thread (λ v. P v (acts_of v (by u a ∷ e))) u
@@ -45,7 +46,8 @@ abbrev pub one_if : {V : Type 0} → Option V → ℕ
 one_if None = 0
 one_if (Some v) = 1
 
-counted_at : {V : Type 0} (t : ℕ) (x : ℕ × V) (rows : List (ℕ × V)) (b : Bool) → (x.0 == t) ≡ b → IsOnce (x ∷ rows) → how_many (λ row. row.0 == t) rows ≡ one_if (at t rows)
+counted_at : {V : Type 0} (t : ℕ) (x : ℕ × V) (rows : List (ℕ × V)) (b : Bool) → (x.0 == t) ≡ b → IsOnce (x ∷ rows)
+    → how_many (λ row. row.0 == t) rows ≡ one_if (at t rows)
     → (if b then how_many (λ row. row.0 == t) rows + 1 else how_many (λ row. row.0 == t) rows) ≡ one_if (if b then Some x.1 else at t rows)
 counted_at t x rows true is once later =
     let none : at t rows ≡ None = lookup-none (is_at (nat_cmp t)) rows (none_past_head (eq_by_cmp_equiv nat_cmp_total) t x rows once (at_key t x.0 ∙ is)) in
@@ -62,7 +64,8 @@ counted_law t (x ∷ rows) once =
 
 -- ---- one item more
 
-swapped : (a b : Bool) (h : ℕ) → (if a then (if b then h + 1 else h) + 1 else (if b then h + 1 else h)) ≡ (if b then (if a then h + 1 else h) + 1 else (if a then h + 1 else h))
+swapped : (a b : Bool) (h : ℕ)
+    → (if a then (if b then h + 1 else h) + 1 else (if b then h + 1 else h)) ≡ (if b then (if a then h + 1 else h) + 1 else (if a then h + 1 else h))
 swapped true true h = refl
 swapped true false h = refl
 swapped false true h = refl
@@ -74,7 +77,8 @@ pub how_many-between : {X : Type 0} (p : X → Bool) (front : List X) (x : X) (b
 how_many-between p [] x back = refl
 how_many-between p (y ∷ front) x back = ap (λ h. if p y then h + 1 else h) (how_many-between p front x back) ∙ swapped (p y) (p x) (how_many p (front ++ back))
 
-counted_by : {X : Type 0} (x : X) (passed : List X) (h : ℕ) (b : Bool) → length passed ≡ h → length (if b then x ∷ passed else passed) ≡ (if b then h + 1 else h)
+counted_by : {X : Type 0} (x : X) (passed : List X) (h : ℕ) (b : Bool) → length passed ≡ h
+    → length (if b then x ∷ passed else passed) ≡ (if b then h + 1 else h)
 counted_by x passed h true later = omega (arith, later)
 counted_by x passed h false later = later
 

@@ -30,7 +30,8 @@ module _ {V : Type 0} where
       (IsPermutation-append_left c (a ++ b) (b ++ a) (IsPermutation-append_comm a b)))
 
   -- a table changes places with one of the list
-  exchanged : (a : ℕ × List (ℕ × V)) (l : List (ℕ × List (ℕ × V))) (i : ℕ) (d : ℕ × List (ℕ × V)) → i < length l → IsPermutation (of a ++ named l) (of (get_or l i d) ++ named (slice_set l i a))
+  exchanged : (a : ℕ × List (ℕ × V)) (l : List (ℕ × List (ℕ × V))) (i : ℕ) (d : ℕ × List (ℕ × V)) → i < length l
+      → IsPermutation (of a ++ named l) (of (get_or l i d) ++ named (slice_set l i a))
   exchanged a [] i d inside = absurd (omega (arith, inside))
   exchanged a (t ∷ l) zero d inside = turned (of a) (of t) (named l)
   exchanged a (t ∷ l) (suc i) d inside =
@@ -58,10 +59,13 @@ module _ {V : Type 0} where
       let over : IsPermutation (of x ++ named one) (of y ++ named two) =
       subst (λ t. IsPermutation (of x ++ named one) (of t ++ named two)) at_j (exchanged x one j d (omega (arith, j_in, length-set l i none))) in
       let back : IsPermutation (of y ++ named two) (named (slice_set two i y)) =
-      subst (λ t. IsPermutation (of y ++ named two) (of t ++ named (slice_set two i y))) at_i (exchanged y two i d (omega (arith, i_in, length-set l i none, length-set one j x))) in
-      let result : slice_set two i y ≡ slice_set (slice_set l i y) j x = set_apart one j i x y (λ same. differ (sym same)) ∙ ap (λ r. slice_set r j x) (set-set l i none y) in
+      subst (λ t. IsPermutation (of y ++ named two) (of t ++ named (slice_set two i y))) at_i
+      (exchanged y two i d (omega (arith, i_in, length-set l i none, length-set one j x))) in
+      let result : slice_set two i y ≡ slice_set (slice_set l i y) j x =
+      set_apart one j i x y (λ same. differ (sym same)) ∙ ap (λ r. slice_set r j x) (set-set l i none y) in
       subst (λ m. IsPermutation (named l) (named m)) result
-      (IsPermutation-trans (named l) (of x ++ named one) (named (slice_set two i y)) out (IsPermutation-trans (of x ++ named one) (of y ++ named two) (named (slice_set two i y)) over back))
+      (IsPermutation-trans (named l) (of x ++ named one) (named (slice_set two i y)) out
+      (IsPermutation-trans (of x ++ named one) (of y ++ named two) (named (slice_set two i y)) over back))
 
   swapped : (l : List (ℕ × List (ℕ × V))) (i j : ℕ) → i < length l → j < length l → IsPermutation (named l) (named (swap l i j))
   swapped [] i j i_in j_in = absurd (omega (arith, i_in))
@@ -75,7 +79,8 @@ module _ {V : Type 0} where
 
 -- ---- the table is gone
 
-module _ {V : Type 0} (maker : ℕ) (old new : List (ℕ × List (ℕ × V))) (empty : at maker old ≡ Some []) (removed : (m : ℕ) → at m new ≡ (if maker == m then None else at m old)) where
+module _ {V : Type 0} (maker : ℕ) (old new : List (ℕ × List (ℕ × V))) (empty : at maker old ≡ Some []) (removed : (m : ℕ)
+    → at m new ≡ (if maker == m then None else at m old)) where
   -- what each maker has stays
   closed_at : (m : ℕ) → table_at m new ≡ table_at m old
   closed_at m = ap table_in (removed m) ∙ by (maker == m) refl

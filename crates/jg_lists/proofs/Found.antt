@@ -15,7 +15,8 @@ pub is_found : {X : Type 0} (p : X → Bool) (xs : List X) → IfSome (find p xs
 is_found p [] = tt
 is_found {X} p (x ∷ xs) = by (p x) refl (find p xs) (is_found p xs)
   where
-    by : (b : Bool) → p x ≡ b → (found : Option X) → IfSome found (λ y. Member y xs × (p y ≡ true)) → IfSome (cond b (Some x) found) (λ y. Member y (x ∷ xs) × (p y ≡ true))
+    by : (b : Bool) → p x ≡ b → (found : Option X) → IfSome found (λ y. Member y xs × (p y ≡ true))
+        → IfSome (cond b (Some x) found) (λ y. Member y (x ∷ xs) × (p y ≡ true))
     by true is found later = (inl refl, is)
     by false is None later = tt
     by false is (Some y) later = (inr later.0, later.1)
@@ -30,7 +31,8 @@ any_found {X} f p (x ∷ xs) = by (p x) (find p xs) (list_any p xs) (any_found f
     by false found rest same = same
 
 -- what is made of what is found, in a list and in what is made of its items
-pub found_in : {X Y R : Type 0} (show : X → Y) (p : Y → Bool) (f : Y → R) (xs : List X) → option_map (λ x. f (show x)) (find (λ x. p (show x)) xs) ≡ option_map f (find p (map show xs))
+pub found_in : {X Y R : Type 0} (show : X → Y) (p : Y → Bool) (f : Y → R) (xs : List X)
+    → option_map (λ x. f (show x)) (find (λ x. p (show x)) xs) ≡ option_map f (find p (map show xs))
 found_in show p f [] = refl
 found_in {X} {Y} show p f (x ∷ xs) = by (p (show x)) (find (λ y. p (show y)) xs) (find p (map show xs)) (found_in show p f xs)
   where
@@ -58,20 +60,24 @@ module _ {V : Type 0} (p : V → Bool) where
   name_first maker es tables =
       ap (option_map (λ (e : Name × V). e.0)) (find-append (λ (e : Name × V). p e.1) (entries maker es) (named tables))
       ∙ either (find (λ (e : Name × V). p e.1) (entries maker es)) (find (λ (e : Name × V). p e.1) (named tables))
-      ∙ ap (λ own. option_or own (name_where p tables)) (sym (found_in (λ (e : ℕ × V). ((maker, e.0), e.1)) (λ e. p e.1) (λ e. e.0) es) ∙ inside (find (λ e. p e.1) es))
+      ∙ ap (λ own. option_or own (name_where p tables)) (sym (found_in (λ (e : ℕ × V). ((maker, e.0), e.1)) (λ e. p e.1) (λ e. e.0) es)
+      ∙ inside (find (λ e. p e.1) es))
     where
       either : (own later : Option (Name × V))
-          → option_map (λ (e : Name × V). e.0) (option_or own later) ≡ option_or (option_map (λ (e : Name × V). e.0) own) (option_map (λ (e : Name × V). e.0) later)
+          → option_map (λ (e : Name × V). e.0) (option_or own later)
+          ≡ option_or (option_map (λ (e : Name × V). e.0) own) (option_map (λ (e : Name × V). e.0) later)
       either None later = refl
       either (Some e) later = refl
 
-      inside : (found : Option (ℕ × V)) → option_map {U = Name} (λ (e : ℕ × V). (maker, e.0)) found ≡ option_map {U = Name} (λ n. (maker, n)) (option_map (λ (e : ℕ × V). e.0) found)
+      inside : (found : Option (ℕ × V))
+          → option_map {U = Name} (λ (e : ℕ × V). (maker, e.0)) found ≡ option_map {U = Name} (λ n. (maker, n)) (option_map (λ (e : ℕ × V). e.0) found)
       inside None = refl
       inside (Some e) = refl
 
   module _ (seats : List (Numbered (List (ℕ × V)))) (i : ℕ) (d : Numbered (List (ℕ × V))) (within : i < length seats)
       (rest : name_where p (map seen (drop i seats)) ≡ name_where p (map seen seats)) where
-    from_here : option_or (option_map {U = Name} (λ n. ((get_or seats i d).number, n)) (number_where p (get_or seats i d).value)) (name_where p (map seen (drop (i + 1) seats)))
+    from_here : option_or (option_map {U = Name} (λ n. ((get_or seats i d).number, n)) (number_where p (get_or seats i d).value))
+        (name_where p (map seen (drop (i + 1) seats)))
         ≡ name_where p (map seen seats)
     from_here =
         sym (name_first (get_or seats i d).number (get_or seats i d).value (map seen (drop (i + 1) seats)))
@@ -79,12 +85,15 @@ module _ {V : Type 0} (p : V → Bool) where
 
     -- a table has none, so that it is that of the tables behind
     pub name_past : None ≡ number_where p (get_or seats i d).value → name_where p (map seen (drop (i + 1) seats)) ≡ name_where p (map seen seats)
-    name_past none = ap (λ own. option_or (option_map {U = Name} (λ n. ((get_or seats i d).number, n)) own) (name_where p (map seen (drop (i + 1) seats)))) none ∙ from_here
+    name_past none = ap (λ own. option_or (option_map {U = Name} (λ n. ((get_or seats i d).number, n)) own) (name_where p (map seen (drop (i + 1) seats)))) none
+        ∙ from_here
 
     -- a table has one
     pub name_here : (n : ℕ) → Some n ≡ number_where p (get_or seats i d).value → Some ((get_or seats i d).number, n) ≡ name_where p (map seen seats)
-    name_here n found = ap (λ own. option_or (option_map {U = Name} (λ k. ((get_or seats i d).number, k)) own) (name_where p (map seen (drop (i + 1) seats)))) found ∙ from_here
+    name_here n found = ap (λ own. option_or (option_map {U = Name} (λ k. ((get_or seats i d).number, k)) own) (name_where p (map seen (drop (i + 1) seats))))
+        found ∙ from_here
 
   -- no table is left
-  name_nowhere : (seats : List (Numbered (List (ℕ × V)))) (i : ℕ) → length seats ≤ i → name_where p (map seen (drop i seats)) ≡ name_where p (map seen seats) → None ≡ name_where p (map seen seats)
+  name_nowhere : (seats : List (Numbered (List (ℕ × V)))) (i : ℕ) → length seats ≤ i → name_where p (map seen (drop i seats)) ≡ name_where p (map seen seats)
+      → None ≡ name_where p (map seen seats)
   name_nowhere seats i past rest = sym (at_drop_all (λ l. name_where p (map seen l)) seats i past) ∙ rest

@@ -20,7 +20,8 @@ pub filter_all : {X : Type 0} (xs : List X) → filter (λ x. true) xs ≡ xs
 filter_all [] = refl
 filter_all (x ∷ xs) = ap (λ l. x ∷ l) (filter_all xs)
 
-pub map-filter : {X Y : Type 0} (f : X → Y) (p : X → Bool) (q : Y → Bool) → ((x : X) → p x ≡ q (f x)) → (xs : List X) → map f (filter p xs) ≡ filter q (map f xs)
+pub map-filter : {X Y : Type 0} (f : X → Y) (p : X → Bool) (q : Y → Bool) → ((x : X) → p x ≡ q (f x)) → (xs : List X)
+    → map f (filter p xs) ≡ filter q (map f xs)
 map-filter f p q alike [] = refl
 map-filter f p q alike (x ∷ xs) =
     rw (alike x) (elim (q (f x)) as (λ b. map f (if b then x ∷ filter p xs else filter p xs) ≡ (if b then f x ∷ filter q (map f xs) else filter q (map f xs)))
@@ -35,7 +36,8 @@ first [] = None
 first (x ∷ xs) = Some x
 
 -- what is found is the first of all that pass, as it is seen
-pub find-map : {X Y : Type 0} (f : X → Y) (p : X → Bool) (q : Y → Bool) → ((x : X) → p x ≡ q (f x)) → (xs : List X) → option_map f (find p xs) ≡ first (filter q (map f xs))
+pub find-map : {X Y : Type 0} (f : X → Y) (p : X → Bool) (q : Y → Bool) → ((x : X) → p x ≡ q (f x)) → (xs : List X)
+    → option_map f (find p xs) ≡ first (filter q (map f xs))
 find-map f p q alike [] = refl
 find-map f p q alike (x ∷ xs) =
     rw (alike x) (elim (q (f x)) as (λ b. option_map f (if b then Some x else find p xs) ≡ first (if b then f x ∷ filter q (map f xs) else filter q (map f xs)))
@@ -46,7 +48,8 @@ abbrev pub Member : {X : Type 0} → X → List X → Type 0
 Member x [] = ⊥
 Member x (y ∷ ys) = (x ≡ y) ⊎ Member x ys
 
-any_member_cons : {X : Type 0} (p : X → Bool) (x : X) (xs : List X) (b : Bool) → p x ≡ b → (list_any p xs ≡ true → (y : X) × (Member y xs × (p y ≡ true))) → list_any p (x ∷ xs) ≡ true
+any_member_cons : {X : Type 0} (p : X → Bool) (x : X) (xs : List X) (b : Bool) → p x ≡ b → (list_any p xs ≡ true → (y : X) × (Member y xs × (p y ≡ true)))
+    → list_any p (x ∷ xs) ≡ true
     → (y : X) × (Member y (x ∷ xs) × (p y ≡ true))
 any_member_cons p x xs true here tail is = (x, (inl refl, here))
 any_member_cons p x xs false here tail is =
@@ -68,7 +71,8 @@ member_filter q x (y ∷ ys) (inr later) is =
     let kept = member_filter q x ys later is in
     elim (q y) as (λ b. Member x (if b then y ∷ filter q ys else filter q ys)) [ true ↦ inr kept | false ↦ kept ]
 
-filtered_at : {X : Type 0} (q : X → Bool) (x y : X) (ys : List X) (b : Bool) → q y ≡ b → Member x (if b then y ∷ filter q ys else filter q ys) → (Member x (filter q ys) → Member x ys × (q x ≡ true))
+filtered_at : {X : Type 0} (q : X → Bool) (x y : X) (ys : List X) (b : Bool) → q y ≡ b → Member x (if b then y ∷ filter q ys else filter q ys)
+    → (Member x (filter q ys) → Member x ys × (q x ≡ true))
     → Member x (y ∷ ys) × (q x ≡ true)
 filtered_at q x y ys true is (inl same) later = (inl same, ap q same ∙ is)
 filtered_at q x y ys true is (inr m) later = let kept = later m in (inr kept.0, kept.1)
@@ -98,10 +102,12 @@ all_mapped f P xs all i d inside = subst P (get_or-map f xs i d) (all i (f d) (s
 -- one number more
 pub range_more : (a n : ℕ) → range_with_len a (n + 1) ≡ range_with_len a n ++ (a + n) ∷ []
 range_more a n =
-    sym (map-id (range_with_len a (n + 1))) ∙ map-range_with_len_more (λ (o : ℕ). o) a n (a + n) refl ∙ ap (λ (os : List ℕ). os ++ (a + n) ∷ []) (map-id (range_with_len a n))
+    sym (map-id (range_with_len a (n + 1))) ∙ map-range_with_len_more (λ (o : ℕ). o) a n (a + n) refl
+    ∙ ap (λ (os : List ℕ). os ++ (a + n) ∷ []) (map-id (range_with_len a n))
 
 pub any_more : (p : ℕ → Bool) (a n : ℕ) → list_any p (range_with_len a (n + 1)) ≡ (list_any p (range_with_len a n) || p (a + n))
-any_more p a n = ap (list_any p) (range_more a n) ∙ list_any-append p (range_with_len a n) ((a + n) ∷ []) ∙ ap (λ b. list_any p (range_with_len a n) || b) (or-false (p (a + n)))
+any_more p a n = ap (list_any p) (range_more a n) ∙ list_any-append p (range_with_len a n) ((a + n) ∷ [])
+    ∙ ap (λ b. list_any p (range_with_len a n) || b) (or-false (p (a + n)))
 
 -- two tests that agree on numbers in a row
 pub any_agree : (p q : ℕ → Bool) (a n : ℕ) → ((o : ℕ) → o < a + n → p o ≡ q o) → list_any p (range_with_len a n) ≡ list_any q (range_with_len a n)
@@ -159,7 +165,8 @@ how_many-most p (x ∷ xs) = by (p x) (how_many-most p xs)
 
 pub find-filter : {X : Type 0} (p : X → Bool) (xs : List X) → find p xs ≡ first (filter p xs)
 find-filter p [] = refl
-find-filter p (x ∷ xs) = rw (find-filter p xs) (elim (p x) as (λ b. (if b then Some x else first (filter p xs)) ≡ first (if b then x ∷ filter p xs else filter p xs)) [ true ↦ refl | false ↦ refl ])
+find-filter p (x ∷ xs) = rw (find-filter p xs)
+    (elim (p x) as (λ b. (if b then Some x else first (filter p xs)) ≡ first (if b then x ∷ filter p xs else filter p xs)) [ true ↦ refl | false ↦ refl ])
 
 pub any_filter : {X : Type 0} (p q : X → Bool) (xs : List X) → list_any p (filter q xs) ≡ list_any (λ x. q x && p x) xs
 any_filter p q [] = refl

@@ -24,7 +24,8 @@ set_at marks i o false is within =
     let apart : o ≢ i = grind (arith, nat_tests) in
     rw (get_or-set_other marks i o true false apart, or-false (get_or marks o false)) refl
 
-within_or_past : (marks : List Bool) (i o : ℕ) → (o < length marks) ⊎ (length marks ≤ o) → slice_get (slice_set marks i true) o ≡ option_map (λ mark. mark || i == o) (slice_get marks o)
+within_or_past : (marks : List Bool) (i o : ℕ) → (o < length marks) ⊎ (length marks ≤ o)
+    → slice_get (slice_set marks i true) o ≡ option_map (λ mark. mark || i == o) (slice_get marks o)
 within_or_past marks i o (inl within) =
     let new : o < length (slice_set marks i true) = simp length-set within in
     rw (slice_get-get_or (slice_set marks i true) o false new, slice_get-get_or marks o false within) (ap Some (set_at marks i o (i == o) refl within))
@@ -85,7 +86,8 @@ passed_by turns turn i o past (inr out) =
     without_mark (slice_get (map (λ t. t == turn) turns) o) (i == o) (slice_get_past (map (λ t. t == turn) turns) o none)
 
 -- an object without a mark is passed over
-passed_over : (turns : List ℕ) (turn i : ℕ) → length turns ≤ i → Marks (λ o. i == o) (slice_get (map (λ t. t == turn) turns)) (slice_get (map (λ t. t == turn) turns))
+passed_over : (turns : List ℕ) (turn i : ℕ) → length turns ≤ i
+    → Marks (λ o. i == o) (slice_get (map (λ t. t == turn) turns)) (slice_get (map (λ t. t == turn) turns))
 passed_over turns turn i past o = passed_by turns turn i o past (cases_lt o (length turns))
 
 -- an object is noted at its place, or at the last if that is of no object
@@ -115,7 +117,8 @@ none_set turns turn o past within =
     let unset : (get_or turns o 0 == turn) ≡ false = grind (arith, nat_tests) in
     slice_get-get_or (map (λ t. t == turn) turns) o (0 == turn) inside ∙ ap Some (get_or-map (λ t. t == turn) turns o 0 (0 == turn) within ∙ unset)
 
-unset_or_past : (turns : List ℕ) (turn o : ℕ) → All (λ t. t < turn) turns → (o < length turns) ⊎ (length turns ≤ o) → get_or (map (λ t. t == turn) turns) o false ≡ false
+unset_or_past : (turns : List ℕ) (turn o : ℕ) → All (λ t. t < turn) turns → (o < length turns) ⊎ (length turns ≤ o)
+    → get_or (map (λ t. t == turn) turns) o false ≡ false
 unset_or_past turns turn o past (inl within) = get_or_from_slice_get (map (λ t. t == turn) turns) o false false (none_set turns turn o past within)
 unset_or_past turns turn o past (inr out) =
     let none : length (map (λ t. t == turn) turns) ≤ o = simp length-map out in
@@ -133,12 +136,14 @@ set_from turns turn first n i within marked =
     ∙ sym (get_or-map (λ t. t == turn) (but_last turns) (first + i) 0 false (omega (arith, within, marked, length-but_last turns)))
 
 -- marks that are set in two turns
-pub marks_more : (before last all : ℕ → Bool) (old mid new : ℕ → Option Bool) → Marks before old mid → Marks last mid new → ((o : ℕ) → all o ≡ (before o || last o)) → Marks all old new
+pub marks_more : (before last all : ℕ → Bool) (old mid new : ℕ → Option Bool) → Marks before old mid → Marks last mid new
+    → ((o : ℕ) → all o ≡ (before o || last o)) → Marks all old new
 marks_more before last all old mid new was now both o =
     now o ∙ ap (option_map (λ m. m || last o)) (was o) ∙ marked_twice (before o) (last o) (old o) ∙ ap (λ b. option_map (λ m. m || b) (old o)) (sym (both o))
 
 -- the marks of what one more item of a list names
-pub marks_item : {X : Type 0} (test : X → ℕ → Bool) (xs : List X) (i : ℕ) (d : X) (old mid new : ℕ → Option Bool) → i < length xs → Marks (λ o. list_any (λ x. test x o) (take i xs)) old mid
+pub marks_item : {X : Type 0} (test : X → ℕ → Bool) (xs : List X) (i : ℕ) (d : X) (old mid new : ℕ → Option Bool) → i < length xs
+    → Marks (λ o. list_any (λ x. test x o) (take i xs)) old mid
     → Marks (test (get_or xs i d)) mid new
     → Marks (λ o. list_any (λ x. test x o) (take (i + 1) xs)) old new
 marks_item test xs i d old mid new within was now =
@@ -146,7 +151,8 @@ marks_item test xs i d old mid new within was now =
     (λ o. list_any_more (λ x. test x o) xs i d within)
 
 -- those of all items
-pub marks_all : {X : Type 0} (test : X → ℕ → Bool) (xs : List X) (i : ℕ) (old new : ℕ → Option Bool) → length xs ≤ i → Marks (λ o. list_any (λ x. test x o) (take i xs)) old new
+pub marks_all : {X : Type 0} (test : X → ℕ → Bool) (xs : List X) (i : ℕ) (old new : ℕ → Option Bool) → length xs ≤ i
+    → Marks (λ o. list_any (λ x. test x o) (take i xs)) old new
     → Marks (λ o. list_any (λ x. test x o) xs) old new
 marks_all test xs i old new past was o = was o ∙ ap (λ l. option_map (λ m. m || list_any (λ x. test x o) l) (old o)) (take_all i xs past)
 
@@ -169,7 +175,10 @@ none_before b (Some m) none = cc
 -- to set marks makes none
 pub marks_length : (test : ℕ → Bool) (old new : List Bool) → Marks test (slice_get old) (slice_get new) → length new ≡ length old
 marks_length test old new are =
-    let fewer : length new ≤ length old = past_of_none new false (length old) (are (length old) ∙ ap (option_map (λ m. m || test (length old))) (slice_get_past old (length old) (omega arith))) in
+    let fewer : length new ≤ length old =
+    past_of_none new false (length old) (are (length old) ∙ ap (option_map (λ m. m || test (length old))) (slice_get_past old (length old) (omega arith)))
+    in
     let more : length old ≤ length new =
-    past_of_none old false (length new) (none_before (test (length new)) (slice_get old (length new)) (sym (are (length new)) ∙ slice_get_past new (length new) (omega arith))) in
+    past_of_none old false (length new)
+    (none_before (test (length new)) (slice_get old (length new)) (sym (are (length new)) ∙ slice_get_past new (length new) (omega arith))) in
     omega (arith, fewer, more)

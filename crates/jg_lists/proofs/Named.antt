@@ -34,11 +34,13 @@ module _ {V R : Type 0} (seen : Name × V → R) (test : R → Bool) (q : Name) 
   pub first_named : (es : List (Name × V)) → first (filter test (map seen es)) ≡ option_map (λ v. seen (q, v)) (lookup (same_name q) es)
   first_named [] = refl
   first_named (e ∷ es) =
-      let P : Bool → Type 0 = λ b. first (if b then seen e ∷ filter test (map seen es) else filter test (map seen es)) ≡ option_map (λ v. seen (q, v)) (lookup (same_name q) (e ∷ es)) in
+      let P : Bool → Type 0 = λ b. first (if b then seen e ∷ filter test (map seen es) else filter test (map seen es))
+      ≡ option_map (λ v. seen (q, v)) (lookup (same_name q) (e ∷ es)) in
       subst P (sym (tests e)) (by (same_name q e.0) refl (first_named es))
     where
       by : (b : Bool) → same_name q e.0 ≡ b → first (filter test (map seen es)) ≡ option_map (λ v. seen (q, v)) (lookup (same_name q) es)
-          → first (if b then seen e ∷ filter test (map seen es) else filter test (map seen es)) ≡ option_map (λ v. seen (q, v)) (cond b (Some e.1) (lookup (same_name q) es))
+          → first (if b then seen e ∷ filter test (map seen es) else filter test (map seen es))
+          ≡ option_map (λ v. seen (q, v)) (cond b (Some e.1) (lookup (same_name q) es))
       by true is rest = ap Some (entry_seen e is)
       by false is rest = rest
 
@@ -55,7 +57,8 @@ module _ {V R : Type 0} (seen : Name × V → R) (test : R → Bool) (q : Name) 
   one_or_none (row ∷ other ∷ rows) few = absurd (omega (arith, few))
 
   -- the rows that pass the test are that of the name, where it is found
-  pub rows_named : (es : List (Name × V)) → IsThereOnce q es → filter test (map seen es) ≡ option_to_list (option_map (λ v. seen (q, v)) (lookup (same_name q) es))
+  pub rows_named : (es : List (Name × V)) → IsThereOnce q es
+      → filter test (map seen es) ≡ option_to_list (option_map (λ v. seen (q, v)) (lookup (same_name q) es))
   rows_named es once = one_or_none (filter test (map seen es)) (omega (arith, once, same_length es)) ∙ ap option_to_list (first_named es)
 
 -- a map in which only names of another are found has only names of it
@@ -112,10 +115,12 @@ once_by p q old now true is none counted few =
     omega (arith, counted, nothing_passes p old (subst P (sym (equal_names p q is)) none))
 once_by p q old now false is none counted few = omega (arith, counted, few)
 
-pub once_more : {V : Type 0} (q : Name) (v : V) (old new : List (Name × V)) → lookup (same_name q) old ≡ None → Adds q v old new → (p : Name) → IsThereOnce p old → IsThereOnce p new
+pub once_more : {V : Type 0} (q : Name) (v : V) (old new : List (Name × V)) → lookup (same_name q) old ≡ None → Adds q v old new → (p : Name)
+    → IsThereOnce p old → IsThereOnce p new
 once_more {V} q v old new none adds p once =
     let test : Name × V → Bool = λ e. same_name p e.0 in
     let counted : how_many test new ≡ (if same_name p q then how_many test old + 1 else how_many test old) =
-    ap (how_many test) adds.now ∙ how_many-between test adds.front (q, v) adds.back ∙ ap (λ es. if same_name p q then how_many test es + 1 else how_many test es) (sym adds.was) in
+    ap (how_many test) adds.now ∙ how_many-between test adds.front (q, v) adds.back
+    ∙ ap (λ es. if same_name p q then how_many test es + 1 else how_many test es) (sym adds.was) in
     let few = once_by p q old (how_many test new) (same_name p q) refl none counted (omega (arith, once, length-filter test old)) in
     omega (arith, few, length-filter test new)

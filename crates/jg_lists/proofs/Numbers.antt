@@ -14,7 +14,8 @@ use Rattle.jg_lists.specs.Searches.{home, Reaches, Placed, Leaves}
 pub apart : (x y : ℕ) → x ≢ y → eq_by_cmp nat_cmp x y ≡ false
 apart x y differ = grind (arith, nat_tests)
 
-numbers_apart : (slots numbers : List ℕ) → Placed slots numbers → (i j d : ℕ) → i < j → j < length numbers → eq_by_cmp nat_cmp (get_or numbers i d) (get_or numbers j d) ≡ false
+numbers_apart : (slots numbers : List ℕ) → Placed slots numbers → (i j d : ℕ) → i < j → j < length numbers
+    → eq_by_cmp nat_cmp (get_or numbers i d) (get_or numbers j d) ≡ false
 numbers_apart slots numbers placed i j d before within =
     let first : i < length numbers = omega (arith, before, within) in
     let one : get_or numbers i d ≡ get_or numbers i 0 = get_or_default_zero numbers i d first in
@@ -34,7 +35,8 @@ placed_none slots = record {
 
 -- ---- a number more
 
-module _ (old new numbers : List ℕ) (n : ℕ) (placed : Placed old numbers) (absent : (i : ℕ) → i < length numbers → get_or numbers i 0 ≢ n) (many : length new ≡ length old)
+module _ (old new numbers : List ℕ) (n : ℕ) (placed : Placed old numbers) (absent : (i : ℕ) → i < length numbers → get_or numbers i 0 ≢ n)
+    (many : length new ≡ length old)
     (others : (first p : ℕ) → 1 ≤ p → Reaches old first p → Reaches new first p) (reach : Reaches new (home (length new) n) (length numbers + 1)) where
   abbrev more : List ℕ
   more = numbers ++ n ∷ []
@@ -42,21 +44,25 @@ module _ (old new numbers : List ℕ) (n : ℕ) (placed : Placed old numbers) (a
   more_is : (i : ℕ) → i < length more → ((i < length numbers) × (get_or more i 0 ≡ get_or numbers i 0)) ⊎ ((i ≡ length numbers) × (get_or more i 0 ≡ n))
   more_is i inside = by (cases_lt i (length numbers))
     where
-      by : (i < length numbers) ⊎ (length numbers ≤ i) → ((i < length numbers) × (get_or more i 0 ≡ get_or numbers i 0)) ⊎ ((i ≡ length numbers) × (get_or more i 0 ≡ n))
+      by : (i < length numbers) ⊎ (length numbers ≤ i)
+          → ((i < length numbers) × (get_or more i 0 ≡ get_or numbers i 0)) ⊎ ((i ≡ length numbers) × (get_or more i 0 ≡ n))
       by (inl before) = inl (before, get_or_append_left numbers (n ∷ []) 0 i before)
       by (inr after) =
           let last : i ≡ length numbers = omega (arith, after, inside, length-append numbers (n ∷ [])) in
           inr (last, ap (λ k. get_or more k 0) last ∙ get_or-append_seam numbers n [] 0)
 
-  more_found : (i : ℕ) → ((i < length numbers) × (get_or more i 0 ≡ get_or numbers i 0)) ⊎ ((i ≡ length numbers) × (get_or more i 0 ≡ n)) → Reaches new (home (length new) (get_or more i 0)) (i + 1)
+  more_found : (i : ℕ) → ((i < length numbers) × (get_or more i 0 ≡ get_or numbers i 0)) ⊎ ((i ≡ length numbers) × (get_or more i 0 ≡ n))
+      → Reaches new (home (length new) (get_or more i 0)) (i + 1)
   more_found i (inl was) =
       subst (λ k. Reaches new (home (length new) k) (i + 1)) (sym was.1)
-      (subst (λ c. Reaches new (home c (get_or numbers i 0)) (i + 1)) (sym many) (others (home (length old) (get_or numbers i 0)) (i + 1) (omega arith) (placed.found i was.0)))
+      (subst (λ c. Reaches new (home c (get_or numbers i 0)) (i + 1)) (sym many)
+      (others (home (length old) (get_or numbers i 0)) (i + 1) (omega arith) (placed.found i was.0)))
   more_found i (inr own) =
       subst (λ k. Reaches new (home (length new) k) (i + 1)) (sym own.1) (subst (λ k. Reaches new (home (length new) n) (k + 1)) (sym own.0) reach)
 
   more_apart : (i j : ℕ) → ((i < length numbers) × (get_or more i 0 ≡ get_or numbers i 0)) ⊎ ((i ≡ length numbers) × (get_or more i 0 ≡ n))
-      → ((j < length numbers) × (get_or more j 0 ≡ get_or numbers j 0)) ⊎ ((j ≡ length numbers) × (get_or more j 0 ≡ n)) → get_or more i 0 ≡ get_or more j 0 → i ≡ j
+      → ((j < length numbers) × (get_or more j 0 ≡ get_or numbers j 0)) ⊎ ((j ≡ length numbers) × (get_or more j 0 ≡ n)) → get_or more i 0 ≡ get_or more j 0
+      → i ≡ j
   more_apart i j (inl one) (inl other) same = placed.apart i j one.0 other.0 (sym one.1 ∙ same ∙ other.1)
   more_apart i j (inl one) (inr other) same = absurd (absent i one.0 (sym one.1 ∙ same ∙ other.1))
   more_apart i j (inr one) (inl other) same = absurd (absent j other.0 (sym other.1 ∙ sym same ∙ one.1))
@@ -94,7 +100,8 @@ module _ (old new numbers left : List ℕ) (seat : ℕ) (placed : Placed old num
   left_found j (inl same) inside =
       let within : seat < length left = omega (arith, same, inside) in
       let end : length numbers - 1 ≡ length left = omega (arith, is.count) in
-      let number : get_or numbers (length numbers - 1) 0 ≡ get_or left j 0 = ap (λ k. get_or numbers k 0) end ∙ sym (is.moved within) ∙ ap (λ k. get_or left k 0) (sym same) in
+      let number : get_or numbers (length numbers - 1) 0 ≡ get_or left j 0 = ap (λ k. get_or numbers k 0) end ∙ sym (is.moved within)
+      ∙ ap (λ k. get_or left k 0) (sym same) in
       subst (λ k. Reaches new (home (length new) (get_or left j 0)) (k + 1)) (sym same)
       (subst (λ k. Reaches new (home (length new) k) (seat + 1)) number (leaves.moved (omega (arith, within, is.count))))
   left_found j (inr other) inside =
@@ -104,11 +111,13 @@ module _ (old new numbers left : List ℕ) (seat : ℕ) (placed : Placed old num
   left_apart i j (inl one) (inl other) first second same = one ∙ sym other
   left_apart i j (inl one) (inr other) first second same =
       let mine : get_or left i 0 ≡ get_or numbers (length left) 0 = ap (λ k. get_or left k 0) one ∙ is.moved (omega (arith, one, first)) in
-      let both : length left ≡ j = placed.apart (length left) j (omega (arith, is.count)) (omega (arith, is.count, second)) (sym mine ∙ same ∙ is.others j other second) in
+      let both : length left ≡ j =
+      placed.apart (length left) j (omega (arith, is.count)) (omega (arith, is.count, second)) (sym mine ∙ same ∙ is.others j other second) in
       absurd (omega (arith, both, second))
   left_apart i j (inr one) (inl other) first second same =
       let mine : get_or left j 0 ≡ get_or numbers (length left) 0 = ap (λ k. get_or left k 0) other ∙ is.moved (omega (arith, other, second)) in
-      let both : i ≡ length left = placed.apart i (length left) (omega (arith, is.count, first)) (omega (arith, is.count)) (sym (is.others i one first) ∙ same ∙ mine) in
+      let both : i ≡ length left =
+      placed.apart i (length left) (omega (arith, is.count, first)) (omega (arith, is.count)) (sym (is.others i one first) ∙ same ∙ mine) in
       absurd (omega (arith, both, first))
   left_apart i j (inr one) (inr other) first second same =
       placed.apart i j (omega (arith, is.count, first)) (omega (arith, is.count, second)) (sym (is.others i one first) ∙ same ∙ is.others j other second)

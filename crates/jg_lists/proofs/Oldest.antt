@@ -12,7 +12,8 @@ oldest n h = reverse (take n (reverse h))
 module _ {X : Type 0} (h : List X) (n : ℕ) where
   pub oldest_more : (x : X) → slice_get (reverse h) n ≡ Some x → oldest (n + 1) h ≡ x ∷ oldest n h
   oldest_more x at =
-      let more = take_more (reverse h) n x (slice_get_within (reverse h) n x at) ∙ ap (λ y. take n (reverse h) ++ y ∷ []) (get_or_from_slice_get (reverse h) n x x at) in
+      let more = take_more (reverse h) n x (slice_get_within (reverse h) n x at)
+      ∙ ap (λ y. take n (reverse h) ++ y ∷ []) (get_or_from_slice_get (reverse h) n x x at) in
       ap reverse more ∙ reverse-append (take n (reverse h)) (x ∷ [])
 
   pub length-oldest : n ≤ length h → length (oldest n h) ≡ n
@@ -21,6 +22,8 @@ module _ {X : Type 0} (h : List X) (n : ℕ) where
   -- what stands in front of one of them
   pub oldest_before : (x : X) → slice_get (reverse h) n ≡ Some x → h ≡ reverse (drop (suc n) (reverse h)) ++ x ∷ oldest n h
   oldest_before x at =
-      let split = split_at (reverse h) n x (slice_get_within (reverse h) n x at) ∙ ap (λ y. take n (reverse h) ++ y ∷ drop (suc n) (reverse h)) (get_or_from_slice_get (reverse h) n x x at) in
+      let split = split_at (reverse h) n x (slice_get_within (reverse h) n x at)
+      ∙ ap (λ y. take n (reverse h) ++ y ∷ drop (suc n) (reverse h)) (get_or_from_slice_get (reverse h) n x x at) in
       sym (reverse-reverse h) ∙ ap reverse split ∙ reverse-append (take n (reverse h)) (x ∷ drop (suc n) (reverse h))
-      ∙ ap (λ front. front ++ oldest n h) (reverse-append (x ∷ []) (drop (suc n) (reverse h))) ∙ append_assoc (reverse (drop (suc n) (reverse h))) (x ∷ []) (oldest n h)
+      ∙ ap (λ front. front ++ oldest n h) (reverse-append (x ∷ []) (drop (suc n) (reverse h)))
+      ∙ append_assoc (reverse (drop (suc n) (reverse h))) (x ∷ []) (oldest n h)

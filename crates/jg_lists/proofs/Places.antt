@@ -22,7 +22,8 @@ use Rattle.jg_lists.proofs.Numbers.{IsWithout, apart}
 use Rattle.jg_lists.proofs.Seats.{seat_found, not_there, set_in, same_numbers, keys_seen, within_view, last_number, seats_without, pairs_less, some_none}
 
 -- two seats of one number would have one place
-numbers_apart : (places numbers : List ℕ) → Placed places numbers → (i j d : ℕ) → i < j → j < length numbers → eq_by_cmp nat_cmp (get_or numbers i d) (get_or numbers j d) ≡ false
+numbers_apart : (places numbers : List ℕ) → Placed places numbers → (i j d : ℕ) → i < j → j < length numbers
+    → eq_by_cmp nat_cmp (get_or numbers i d) (get_or numbers j d) ≡ false
 numbers_apart places numbers placed i j d before within =
     let one : get_or numbers i d ≡ get_or numbers i 0 = get_or_default_zero numbers i d (omega (arith, before, within)) in
     let other : get_or numbers j d ≡ get_or numbers j 0 = get_or_default_zero numbers j d within in
@@ -58,7 +59,8 @@ placed_same old new numbers placed same = record {
 -- ---- a number more
 
 -- what a number more does to the places, by the number of seats before it
-placed_found : (old numbers : List ℕ) (n : ℕ) → Placed old numbers → get_or old n 0 ≡ 0 → n < length old → (i : ℕ) → (i < length numbers) ⊎ (length numbers ≤ i) → i < length (numbers ++ n ∷ [])
+placed_found : (old numbers : List ℕ) (n : ℕ) → Placed old numbers → get_or old n 0 ≡ 0 → n < length old → (i : ℕ) → (i < length numbers) ⊎ (length numbers ≤ i)
+    → i < length (numbers ++ n ∷ [])
     → get_or (slice_set old n (length numbers + 1)) (get_or (numbers ++ n ∷ []) i 0) 0 ≡ i + 1
 placed_found old numbers n placed none inside i (inl before) own =
     let was : get_or (numbers ++ n ∷ []) i 0 ≡ get_or numbers i 0 = get_or_append_left numbers (n ∷ []) 0 i before in
@@ -73,10 +75,12 @@ placed_found old numbers n placed none inside i (inr after) own =
     ap (λ k. get_or (slice_set old n (length numbers + 1)) k 0) mine ∙ get_or-set_same old n (length numbers + 1) 0 inside ∙ omega (arith, last)
 
 -- which number a place belongs to
-placed_held : (old numbers : List ℕ) (n : ℕ) → Placed old numbers → n < length old → (u i : ℕ) → (u ≡ n) ⊎ (u ≢ n) → get_or (slice_set old n (length numbers + 1)) u 0 ≡ i + 1
+placed_held : (old numbers : List ℕ) (n : ℕ) → Placed old numbers → n < length old → (u i : ℕ) → (u ≡ n) ⊎ (u ≢ n)
+    → get_or (slice_set old n (length numbers + 1)) u 0 ≡ i + 1
     → (i < length (numbers ++ n ∷ [])) × (get_or (numbers ++ n ∷ []) i 0 ≡ u)
 placed_held old numbers n placed inside u i (inl own) at =
-    let last : i ≡ length numbers = omega (arith, at, ap (λ k. get_or (slice_set old n (length numbers + 1)) k 0) own ∙ get_or-set_same old n (length numbers + 1) 0 inside) in
+    let last : i ≡ length numbers =
+    omega (arith, at, ap (λ k. get_or (slice_set old n (length numbers + 1)) k 0) own ∙ get_or-set_same old n (length numbers + 1) 0 inside) in
     (omega (arith, last, length-append numbers (n ∷ [])), ap (λ k. get_or (numbers ++ n ∷ []) k 0) last ∙ get_or-append_seam numbers n [] 0 ∙ sym own)
 placed_held old numbers n placed inside u i (inr differ) at =
     let was = placed.held u i (sym (get_or-set_other old n u (length numbers + 1) 0 differ) ∙ at) in
@@ -121,7 +125,11 @@ module _ (old numbers left : List ℕ) (n i : ℕ) (placed : Placed old numbers)
   -- a number that isn't that one, by whether it is the last
   kept : (m : ℕ) → m ≢ n → (m ≡ last) ⊎ (m ≢ last) → ((m ≡ last) × (get_or less m 0 ≡ i + 1)) ⊎ ((m ≢ last) × (get_or less m 0 ≡ get_or old m 0))
   kept m other (inl same) =
-      inl (same, get_or-set_other moved_last n m 0 0 other ∙ ap (λ k. get_or moved_last k 0) same ∙ get_or-set_same old last (i + 1) 0 (beyond old last (length left) last_at))
+      inl (
+        same,
+        get_or-set_other moved_last n m 0 0 other ∙ ap (λ k. get_or moved_last k 0) same
+            ∙ get_or-set_same old last (i + 1) 0 (beyond old last (length left) last_at),
+      )
   kept m other (inr differ) = inr (differ, get_or-set_other moved_last n m 0 0 other ∙ get_or-set_other old last m (i + 1) 0 differ)
 
   less_found : (j : ℕ) → (j ≡ i) ⊎ (j ≢ i) → j < length left → get_or less (get_or left j 0) 0 ≡ j + 1
@@ -140,7 +148,8 @@ module _ (old numbers left : List ℕ) (n i : ℕ) (placed : Placed old numbers)
       let behind : get_or numbers j 0 ≢ last = λ e. omega (arith, sym place ∙ ap (λ k. get_or old k 0) e ∙ last_at, inside) in
       ap (λ k. get_or less k 0) number ∙ by (kept (get_or numbers j 0) other (inr behind)) behind ∙ place
     where
-      by : ((get_or numbers j 0 ≡ last) × (get_or less (get_or numbers j 0) 0 ≡ i + 1)) ⊎ ((get_or numbers j 0 ≢ last) × (get_or less (get_or numbers j 0) 0 ≡ get_or old (get_or numbers j 0) 0))
+      by : ((get_or numbers j 0 ≡ last) × (get_or less (get_or numbers j 0) 0 ≡ i + 1))
+          ⊎ ((get_or numbers j 0 ≢ last) × (get_or less (get_or numbers j 0) 0 ≡ get_or old (get_or numbers j 0) 0))
           → get_or numbers j 0 ≢ last
           → get_or less (get_or numbers j 0) 0 ≡ get_or old (get_or numbers j 0) 0
       by (inl here) behind = absurd (behind here.0)
@@ -174,7 +183,8 @@ module _ (old numbers left : List ℕ) (n i : ℕ) (placed : Placed old numbers)
 
 -- ---- two seats swapped
 
-placed_swapped : (old new numbers moved : List ℕ) (i j : ℕ) → i < length numbers → j < length numbers → Placed old numbers → Swaps numbers moved i j → length moved ≡ length numbers
+placed_swapped : (old new numbers moved : List ℕ) (i j : ℕ) → i < length numbers → j < length numbers → Placed old numbers → Swaps numbers moved i j
+    → length moved ≡ length numbers
     → SwappedAt old new (get_or numbers i 0) (get_or numbers j 0) → Placed new moved
 placed_swapped old new numbers moved i j i_in j_in placed seats same places = record {
   found = λ k inside. found_by k (cases_eq k i) (cases_eq k j) (omega (arith, inside, same));
@@ -224,7 +234,8 @@ module _ {V : Type 0} where
       subst IsOnce is (subst (IsDistinct (eq_by_cmp nat_cmp)) (sym (map-map (λ e. e.0) seen seats)) (numbers_once places (map number_of seats) placed))
 
   -- a place other than 0 is that of a seat
-  pub within : (places : List ℕ) (seats : List (Numbered V)) (n place : ℕ) → Placed places (map number_of seats) → place ≡ get_or places n 0 → 1 ≤ place → place - 1 < length seats
+  pub within : (places : List ℕ) (seats : List (Numbered V)) (n place : ℕ) → Placed places (map number_of seats) → place ≡ get_or places n 0 → 1 ≤ place
+      → place - 1 < length seats
   within places seats n place placed is some =
       let at : get_or places n 0 ≡ (place - 1) + 1 = sym is ∙ omega (arith, some) in
       let inside : place - 1 < length (map number_of seats) = (placed.held n (place - 1) at).0 in
@@ -241,9 +252,11 @@ module _ {V : Type 0} where
       → at n es ≡ Some (get_or seats (place - 1) d).value
   found places seats es n place d placed seen_is is some =
       subst (λ l. at n l ≡ Some (get_or seats (place - 1) d).value) seen_is
-      (seat_found seats (place - 1) n d (numbers_once places (map number_of seats) placed) (within places seats n place placed is some) (own_seat places seats n place d placed is some))
+      (seat_found seats (place - 1) n d (numbers_once places (map number_of seats) placed) (within places seats n place placed is some)
+      (own_seat places seats n place d placed is some))
 
-  pub not_found : (places : List ℕ) (seats : List (Numbered V)) (es : List (ℕ × V)) (n : ℕ) → Placed places (map number_of seats) → map seen seats ≡ es → 0 ≡ get_or places n 0 → at n es ≡ None
+  pub not_found : (places : List ℕ) (seats : List (Numbered V)) (es : List (ℕ × V)) (n : ℕ) → Placed places (map number_of seats) → map seen seats ≡ es
+      → 0 ≡ get_or places n 0 → at n es ≡ None
   not_found places seats es n placed seen_is none =
       subst (λ l. at n l ≡ None) seen_is (not_there seats n (none_at places (map number_of seats) n placed (sym none)))
 
@@ -256,11 +269,13 @@ module _ {V : Type 0} where
       → Placed places (map number_of seats) → map seen seats ≡ es → place ≡ get_or places n 0 → 1 ≤ place
       → seen x ≡ (n, w) → map seen (slice_set seats (place - 1) x) ≡ set_value (is_at (nat_cmp n)) es w
   written places seats es n place d x w placed seen_is is some mine =
-      set_in seats (place - 1) n d x w (numbers_once places (map number_of seats) placed) (within places seats n place placed is some) (own_seat places seats n place d placed is some) mine
+      set_in seats (place - 1) n d x w (numbers_once places (map number_of seats) placed) (within places seats n place placed is some)
+      (own_seat places seats n place d placed is some) mine
       ∙ ap (λ l. set_value (is_at (nat_cmp n)) l w) seen_is
 
   -- the numbers stay
-  pub placed_written : (places : List ℕ) (seats : List (Numbered V)) (i : ℕ) (d x : Numbered V) → Placed places (map number_of seats) → i < length seats → number_of (get_or seats i d) ≡ number_of x
+  pub placed_written : (places : List ℕ) (seats : List (Numbered V)) (i : ℕ) (d x : Numbered V) → Placed places (map number_of seats) → i < length seats
+      → number_of (get_or seats i d) ≡ number_of x
       → Placed places (map number_of (slice_set seats i x))
   placed_written places seats i d x placed inside own = subst (Placed places) (sym (same_numbers seats i d x inside own)) placed
 
@@ -276,10 +291,12 @@ module _ {V : Type 0} where
       (many ∙ ap length is ∙ length-append seats (x ∷ []) ∙ ap (λ c. c + 1) (sym (length-map seats number_of)))
 
   -- each seat's number has a place
-  pub seat_inside : (places : List ℕ) (seats : List (Numbered V)) (i : ℕ) (x : Numbered V) → Placed places (map number_of seats) → i < length seats → x ≡ get_or seats i x → number_of x < length places
+  pub seat_inside : (places : List ℕ) (seats : List (Numbered V)) (i : ℕ) (x : Numbered V) → Placed places (map number_of seats) → i < length seats
+      → x ≡ get_or seats i x → number_of x < length places
   seat_inside places seats i x placed inside own =
       let place : get_or places (get_or (map number_of seats) i 0) 0 ≡ i + 1 = placed.found i (simp length-map inside) in
-      subst (λ k. k < length places) (get_or-map number_of seats i x 0 inside ∙ sym (ap number_of own)) (beyond places (get_or (map number_of seats) i 0) i place)
+      subst (λ k. k < length places) (get_or-map number_of seats i x 0 inside ∙ sym (ap number_of own))
+      (beyond places (get_or (map number_of seats) i 0) i place)
 
   -- the entry at a number's place is the number's
   pub seat_of : (places : List ℕ) (seats : List (Numbered V)) (es : List (ℕ × V)) (n place : ℕ) → Placed places (map number_of seats)
@@ -312,17 +329,20 @@ module _ {V : Type 0} where
     placed_left = placed_less places (map number_of seats) (map number_of new) n (place - 1) placed without_it there
 
     -- the same, as the code writes the places
-    pub placed_after : (end : ℕ) (last : Numbered V) → end ≡ length seats → last ≡ get_or seats (end - 1) last → Placed (slice_set (slice_set places (number_of last) place) n 0) (map number_of new)
+    pub placed_after : (end : ℕ) (last : Numbered V) → end ≡ length seats → last ≡ get_or seats (end - 1) last
+        → Placed (slice_set (slice_set places (number_of last) place) n 0) (map number_of new)
     placed_after end last all at_end =
         let own = last_number seats end last all (omega (arith, all, inside_it)) at_end in
         let number : number_of last ≡ get_or (map number_of seats) (length (map number_of new)) 0 =
-        own ∙ ap (λ k. get_or (map number_of seats) k 0) (let e : length (map number_of seats) - 1 ≡ length (map number_of new) = omega (arith, without_it.count) in e) in
+        own ∙ ap (λ k. get_or (map number_of seats) k 0) (let e : length (map number_of seats) - 1 ≡ length (map number_of new) =
+        omega (arith, without_it.count) in e) in
         let back : place ≡ (place - 1) + 1 = omega (arith, some) in
         subst (λ l. Placed l (map number_of new)) (sym (ap (λ k. slice_set (slice_set places k place) n 0) number
         ∙ ap (λ p. slice_set (slice_set places (get_or (map number_of seats) (length (map number_of new)) 0) p) n 0) back)) placed_left
 
     pub none_now : at n (map seen new) ≡ None
-    none_now = not_found left_places new (map seen new) n placed_left refl (sym (gone places (map number_of seats) (map number_of new) n (place - 1) placed without_it there))
+    none_now = not_found left_places new (map seen new) n placed_left refl
+        (sym (gone places (map number_of seats) (map number_of new) n (place - 1) placed without_it there))
 
     pub taken_it : IsPermutation es ((n, x.value) ∷ map seen new)
     taken_it = pairs_less seats new es n (place - 1) x inside_it at_it left seen_is (ap number_of at_it ∙ own_seat places seats n place x placed is some)
@@ -347,7 +367,8 @@ module _ {V : Type 0} where
       by : (k : ℕ) (r : R) → k ≢ i → k ≢ j → (k < length seats) ⊎ (length seats ≤ k) → get_or (map f new) k r ≡ get_or (map f seats) k r
       by k r one other (inl inside) = in_new k r inside ∙ ap f (swapped.2 k d one other) ∙ sym (get_or-map f seats k d r inside)
       by k r one other (inr past) =
-          get_or_past (map f new) k r (omega (arith, past, same, length-map new f)) ∙ sym (get_or_past (map f seats) k r (omega (arith, past, length-map seats f)))
+          get_or_past (map f new) k r (omega (arith, past, same, length-map new f))
+          ∙ sym (get_or_past (map f seats) k r (omega (arith, past, length-map seats f)))
 
   module _ (places news : List ℕ) (seats new : List (Numbered V)) (es : List (ℕ × V)) (i j : ℕ) (x y : Numbered V)
       (placed : Placed places (map number_of seats)) (seen_is : map seen seats ≡ es) (i_in : i < length es) (j_in : j < length es)
@@ -369,7 +390,8 @@ module _ {V : Type 0} where
         placed_swapped places news (map number_of seats) (map number_of new) i j (simp length-map i_seat)
         (simp length-map j_seat) placed (numbers_swapped number_of seats new i j x i_seat j_seat same each)
         (omega (arith, same, length-map new number_of, length-map seats number_of))
-        (subst (λ k. SwappedAt places news k (get_or (map number_of seats) j 0)) (number_at i x i_seat first) (subst (λ k. SwappedAt places news (number_of x) k) (number_at j y j_seat second) moved))
+        (subst (λ k. SwappedAt places news k (get_or (map number_of seats) j 0)) (number_at i x i_seat first)
+        (subst (λ k. SwappedAt places news (number_of x) k) (number_at j y j_seat second) moved))
 
     pub swapped_view : Swaps es (map seen new) i j
     swapped_view = subst (λ l. Swaps l (map seen new) i j) seen_is (numbers_swapped seen seats new i j x i_seat j_seat same each)

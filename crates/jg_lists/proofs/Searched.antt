@@ -20,7 +20,11 @@ spot_back count first k past = grind (arith, nat_tests, past)
 pub home_within : (count n : ℕ) → 0 < count → home count n < count
 unfolding home
 home_within count n some =
-    omega (arith, and_le_r (bit_or ((n / 16 * 11400714819323198485) % 2 ^ 64 / 2 ^ ((leading_zeros w64 count % 64 + 5) % 64) * 16 % 2 ^ 64) (n % 16)) (count - 1))
+    omega (
+      arith,
+      and_le_r (bit_or ((n / 16 * 11400714819323198485) % 2 ^ 64 / 2 ^ ((leading_zeros w64 count % 64 + 5) % 64) * 16 % 2 ^ 64) (n % 16))
+          (count - 1),
+    )
 
 pub following_front : (count slot : ℕ) → slot + 1 < count → following count slot ≡ slot + 1
 unfolding following
@@ -96,7 +100,8 @@ filled_all (x ∷ xs) all =
 -- ---- a slot is written
 
 -- a search that found the place finds it, where no slot was made free and each with the place has it still
-reaches_by : (old new : List ℕ) (first p : ℕ) → length new ≡ length old → ((u : ℕ) → 1 ≤ get_or old u 0 → 1 ≤ get_or new u 0) → ((u : ℕ) → get_or old u 0 ≡ p → get_or new u 0 ≡ p)
+reaches_by : (old new : List ℕ) (first p : ℕ) → length new ≡ length old → ((u : ℕ) → 1 ≤ get_or old u 0 → 1 ≤ get_or new u 0)
+    → ((u : ℕ) → get_or old u 0 ≡ p → get_or new u 0 ≡ p)
     → Reaches old first p → Reaches new first p
 reaches_by old new first p many still same reach = record {
   steps = reach.steps;
@@ -123,17 +128,21 @@ written old s v first p some differ reach =
     reaches_by old (slice_set old s v) first p (length-set old s v) (λ u. set_still old s v u some) (λ u. set_other old s v u p differ) reach
 
 -- a slot may be made free whose next one is, if it hasn't the place
-module _ (old : List ℕ) (s first p : ℕ) (start : first < length old) (some : 1 ≤ p) (next : get_or old (following (length old) s) 0 ≡ 0) (reach : Reaches old first p) where
+module _ (old : List ℕ) (s first p : ℕ) (start : first < length old) (some : 1 ≤ p) (next : get_or old (following (length old) s) 0 ≡ 0)
+    (reach : Reaches old first p) where
   -- the slot is not on the way, since the next one would be too
   past : (j : ℕ) → j < reach.steps → (j + 1 < reach.steps) ⊎ (reach.steps ≤ j + 1) → spot (length old) first j ≢ s
   past j b (inl before) same =
-      let after : spot (length old) first (j + 1) ≡ following (length old) s = spot_next (length old) first j start (omega (arith, before, reach.within)) ∙ ap (following (length old)) same in
+      let after : spot (length old) first (j + 1) ≡ following (length old) s = spot_next (length old) first j start (omega (arith, before, reach.within))
+      ∙ ap (following (length old)) same in
       let none : get_or old (spot (length old) first (j + 1)) 0 ≡ 0 = ap (λ u. get_or old u 0) after ∙ next in
       omega (arith, none, reach.before (j + 1) before)
   past j b (inr end) same =
       let last : j + 1 ≡ reach.steps = omega (arith, b, end) in
-      let after : spot (length old) first (j + 1) ≡ following (length old) s = spot_next (length old) first j start (omega (arith, last, reach.within)) ∙ ap (following (length old)) same in
-      let none : get_or old (spot (length old) first reach.steps) 0 ≡ 0 = ap (λ k. get_or old (spot (length old) first k) 0) (sym last) ∙ (ap (λ u. get_or old u 0) after ∙ next) in
+      let after : spot (length old) first (j + 1) ≡ following (length old) s = spot_next (length old) first j start (omega (arith, last, reach.within))
+      ∙ ap (following (length old)) same in
+      let none : get_or old (spot (length old) first reach.steps) 0 ≡ 0 = ap (λ k. get_or old (spot (length old) first k) 0) (sym last)
+      ∙ (ap (λ u. get_or old u 0) after ∙ next) in
       omega (arith, none, reach.here, some)
 
   kept : (j : ℕ) → j < reach.steps → 1 ≤ get_or (slice_set old s 0) (spot (length old) first j) 0
@@ -143,25 +152,31 @@ module _ (old : List ℕ) (s first p : ℕ) (start : first < length old) (some :
   freed differ = record {
     steps = reach.steps;
     within = omega (arith, length-set old s 0, reach.within);
-    here = subst (λ c. get_or (slice_set old s 0) (spot c first reach.steps) 0 ≡ p) (sym (length-set old s 0)) (set_other old s 0 (spot (length old) first reach.steps) p differ reach.here);
+    here = subst (λ c. get_or (slice_set old s 0) (spot c first reach.steps) 0 ≡ p) (sym (length-set old s 0))
+        (set_other old s 0 (spot (length old) first reach.steps) p differ reach.here);
     before = λ j b. subst (λ c. 1 ≤ get_or (slice_set old s 0) (spot c first j) 0) (sym (length-set old s 0)) (kept j b);
   }
 
 -- what may stand in a slot that hasn't the place
-marked : (old : List ℕ) (s mark first p : ℕ) → first < length old → 1 ≤ p → MayStand old s mark → get_or old s 0 ≢ p → Reaches old first p → Reaches (slice_set old s mark) first p
+marked : (old : List ℕ) (s mark first p : ℕ) → first < length old → 1 ≤ p → MayStand old s mark → get_or old s 0 ≢ p → Reaches old first p
+    → Reaches (slice_set old s mark) first p
 marked old s mark first p start some (inl taken) differ reach = written old s mark first p taken differ reach
-marked old s mark first p start some (inr free) differ reach = subst (λ m. Reaches (slice_set old s m) first p) (sym free.0) (freed old s first p start some free.1 reach differ)
+marked old s mark first p start some (inr free) differ reach =
+    subst (λ m. Reaches (slice_set old s m) first p) (sym free.0) (freed old s first p start some free.1 reach differ)
 
 -- the search comes to the slot that was written
-comes_to : (old : List ℕ) (n slot place : ℕ) → 1 ≤ place → Comes old n slot → Reaches (slice_set old slot place) (home (length (slice_set old slot place)) n) place
+comes_to : (old : List ℕ) (n slot place : ℕ) → 1 ≤ place → Comes old n slot
+    → Reaches (slice_set old slot place) (home (length (slice_set old slot place)) n) place
 comes_to old n slot place some comes =
     let new = slice_set old slot place in
     let many : length old ≡ length new = sym (length-set old slot place) in
     record {
       steps = comes.steps;
       within = omega (arith, many, comes.within);
-      here = subst (λ c. get_or new (spot c (home c n) comes.steps) 0 ≡ place) many (ap (λ u. get_or new u 0) comes.here ∙ get_or-set_same old slot place 0 comes.inside);
-      before = λ j b. subst (λ c. 1 ≤ get_or new (spot c (home c n) j) 0) many (set_still old slot place (spot (length old) (home (length old) n) j) some (comes.before j b));
+      here = subst (λ c. get_or new (spot c (home c n) comes.steps) 0 ≡ place) many
+          (ap (λ u. get_or new u 0) comes.here ∙ get_or-set_same old slot place 0 comes.inside);
+      before = λ j b. subst (λ c. 1 ≤ get_or new (spot c (home c n) j) 0) many
+          (set_still old slot place (spot (length old) (home (length old) n) j) some (comes.before j b));
     }
 
 -- a number more is found
@@ -190,7 +205,8 @@ misses_free slots numbers n step passed free i inside reach own = by (cases_lt r
   where
     at_end : (step ≡ reach.steps) ⊎ (step ≢ reach.steps) → step ≤ reach.steps → ⊥
     at_end (inl same) past =
-        let here : get_or slots (spot (length slots) (home (length slots) n) reach.steps) 0 ≡ 0 = ap (λ k. get_or slots (spot (length slots) (home (length slots) n) k) 0) (sym same) ∙ free in
+        let here : get_or slots (spot (length slots) (home (length slots) n) reach.steps) 0 ≡ 0 =
+        ap (λ k. get_or slots (spot (length slots) (home (length slots) n) k) 0) (sym same) ∙ free in
         omega (arith, here, reach.here)
     at_end (inr other) past = omega (arith, reach.before step (omega (arith, other, past)), free)
 
@@ -198,7 +214,8 @@ misses_free slots numbers n step passed free i inside reach own = by (cases_lt r
     by (inl before) = (passed reach.steps before).other i inside reach.here own
     by (inr past) = at_end (cases_eq step reach.steps) past
 
-misses_all : (slots numbers : List ℕ) (n : ℕ) → ((j : ℕ) → j < length slots → Passes slots numbers n (spot (length slots) (home (length slots) n) j)) → Misses slots numbers n
+misses_all : (slots numbers : List ℕ) (n : ℕ) → ((j : ℕ) → j < length slots → Passes slots numbers n (spot (length slots) (home (length slots) n) j))
+    → Misses slots numbers n
 misses_all slots numbers n passed i inside reach own = (passed reach.steps reach.within).other i inside reach.here own
 
 -- a table without slots has no place
@@ -207,7 +224,8 @@ misses_empty slots numbers n none i inside reach own = absurd (omega (arith, non
 
 -- ---- a seat is left
 
-module _ (old numbers : List ℕ) (slot seat mark : ℕ) (placed : Placed old numbers) (found : Finds old numbers (get_or numbers seat 0) slot seat) (may : MayStand old slot mark) where
+module _ (old numbers : List ℕ) (slot seat mark : ℕ) (placed : Placed old numbers) (found : Finds old numbers (get_or numbers seat 0) slot seat)
+    (may : MayStand old slot mark) where
   abbrev without_place : List ℕ
   without_place = slice_set old slot mark
 
@@ -226,14 +244,17 @@ module _ (old numbers : List ℕ) (slot seat mark : ℕ) (placed : Placed old nu
         absurd (misses (length numbers - 1) last reach refl);
   }
 
-  leaves_some : (other back : ℕ) → Finds without_place numbers (get_or numbers (length numbers - 1) 0) other back → Leaves (slice_set without_place other (seat + 1)) numbers seat
+  leaves_some : (other back : ℕ) → Finds without_place numbers (get_or numbers (length numbers - 1) 0) other back
+      → Leaves (slice_set without_place other (seat + 1)) numbers seat
   leaves_some other back last =
       let whole : length numbers - 1 < length numbers = omega (arith, last.seated) in
       let own : back ≡ length numbers - 1 = placed.apart back (length numbers - 1) last.seated whole last.own in
       record {
         others = λ j before differ.
-            subst (λ c. Reaches (slice_set without_place other (seat + 1)) (home c (get_or numbers j 0)) (j + 1)) (sym (length-set without_place other (seat + 1)))
-            (written without_place other (seat + 1) (home (length without_place) (get_or numbers j 0)) (j + 1) (omega arith) (λ same. absurd (omega (arith, same, last.place, own, before)))
+            subst (λ c. Reaches (slice_set without_place other (seat + 1)) (home c (get_or numbers j 0)) (j + 1))
+            (sym (length-set without_place other (seat + 1)))
+            (written without_place other (seat + 1) (home (length without_place) (get_or numbers j 0)) (j + 1) (omega arith)
+            (λ same. absurd (omega (arith, same, last.place, own, before)))
             (still_found j (omega (arith, before)) differ));
         moved = λ before. comes_to without_place (get_or numbers (length numbers - 1) 0) other (seat + 1) (omega arith) last.comes;
       }

@@ -26,7 +26,8 @@ pub some_none : {V : Type 0} {v : V} → Some v ≡ None → ⊥
 some_none is = cc
 
 misses_each : (slots numbers : List ℕ) (n : ℕ) → Placed slots numbers → Misses slots numbers n → (i : ℕ) → i < length numbers → get_or numbers i 0 ≢ n
-misses_each slots numbers n placed misses i inside own = misses i inside (subst (λ k. Reaches slots (home (length slots) k) (i + 1)) own (placed.found i inside)) own
+misses_each slots numbers n placed misses i inside own =
+    misses i inside (subst (λ k. Reaches slots (home (length slots) k) (i + 1)) own (placed.found i inside)) own
 
 module _ {V : Type 0} where
   pub keys_seen : (seats : List (Numbered V)) (es : List (ℕ × V)) → map seen seats ≡ es → keys_of es ≡ map number_of seats
@@ -39,14 +40,16 @@ module _ {V : Type 0} where
   pub within : (slots : List ℕ) (seats : List (Numbered V)) (n slot seat : ℕ) → Finds slots (map number_of seats) n slot seat → seat < length seats
   within slots seats n slot seat finds = omega (arith, finds.seated, length-map seats number_of)
 
-  pub own_seat : (slots : List ℕ) (seats : List (Numbered V)) (n slot seat : ℕ) (d : Numbered V) → Finds slots (map number_of seats) n slot seat → number_of (get_or seats seat d) ≡ n
+  pub own_seat : (slots : List ℕ) (seats : List (Numbered V)) (n slot seat : ℕ) (d : Numbered V) → Finds slots (map number_of seats) n slot seat
+      → number_of (get_or seats seat d) ≡ n
   own_seat slots seats n slot seat d finds = sym (get_or-map number_of seats seat d 0 (within slots seats n slot seat finds)) ∙ finds.own
 
   -- the same, of a view's entries
   pub within_view : (seats : List (Numbered V)) (es : List (ℕ × V)) (i : ℕ) → map seen seats ≡ es → i < length es → i < length seats
   within_view seats es i is inside = omega (arith, inside, ap length is, length-map seats seen)
 
-  pub own_in_view : (seats : List (Numbered V)) (es : List (ℕ × V)) (n i : ℕ) (d : Numbered V) → map seen seats ≡ es → i < length es → get_or (keys_of es) i 0 ≡ n → number_of (get_or seats i d) ≡ n
+  pub own_in_view : (seats : List (Numbered V)) (es : List (ℕ × V)) (n i : ℕ) (d : Numbered V) → map seen seats ≡ es → i < length es
+      → get_or (keys_of es) i 0 ≡ n → number_of (get_or seats i d) ≡ n
   own_in_view seats es n i d is inside own =
       sym (get_or-map number_of seats i d 0 (within_view seats es i is inside)) ∙ (ap (λ l. get_or l i 0) (sym (keys_seen seats es is)) ∙ own)
 
@@ -55,13 +58,15 @@ module _ {V : Type 0} where
       → IsDistinct (eq_by_cmp nat_cmp) (number_of s ∷ map number_of seats) → i < length seats → number_of (get_or seats i d) ≡ n
       → is_at (nat_cmp n) (number_of s) ≡ false
   other_head s seats i n d distinct inside own =
-      let all = All-from_recursion (λ y. eq_by_cmp nat_cmp (number_of s) y ≡ false) (map number_of seats) (IsDistinct-head (eq_by_cmp nat_cmp) (number_of s) (map number_of seats) distinct) in
+      let all = All-from_recursion (λ y. eq_by_cmp nat_cmp (number_of s) y ≡ false) (map number_of seats)
+      (IsDistinct-head (eq_by_cmp nat_cmp) (number_of s) (map number_of seats) distinct) in
       let there : get_or (map number_of seats) i 0 ≡ n = get_or-map number_of seats i d 0 inside ∙ own in
       let differ : eq_by_cmp nat_cmp (number_of s) n ≡ false = rw there at (all i 0 (simp length-map inside)) in
       grind (arith, nat_tests, differ)
 
   -- what the number's look-up finds is its seat's value
-  pub seat_found : (seats : List (Numbered V)) (i n : ℕ) (d : Numbered V) → IsDistinct (eq_by_cmp nat_cmp) (map number_of seats) → i < length seats → number_of (get_or seats i d) ≡ n
+  pub seat_found : (seats : List (Numbered V)) (i n : ℕ) (d : Numbered V) → IsDistinct (eq_by_cmp nat_cmp) (map number_of seats) → i < length seats
+      → number_of (get_or seats i d) ≡ n
       → lookup (is_at (nat_cmp n)) (map seen seats) ≡ Some (get_or seats i d).value
   seat_found [] i n d distinct inside own = absurd (omega (arith, inside))
   seat_found (s ∷ seats) zero n d distinct inside own =
@@ -80,11 +85,13 @@ module _ {V : Type 0} where
 
   -- ---- no seat
 
-  none_in : (seats : List (Numbered V)) (n : ℕ) → AllByRecursion (λ k. is_at (nat_cmp n) k ≡ false) (map number_of seats) → lookup (is_at (nat_cmp n)) (map seen seats) ≡ None
+  none_in : (seats : List (Numbered V)) (n : ℕ) → AllByRecursion (λ k. is_at (nat_cmp n) k ≡ false) (map number_of seats)
+      → lookup (is_at (nat_cmp n)) (map seen seats) ≡ None
   none_in [] n none = refl
   none_in (s ∷ seats) n none = rw none.0 (none_in seats n none.1)
 
-  pub not_there : (seats : List (Numbered V)) (n : ℕ) → ((i : ℕ) → i < length (map number_of seats) → get_or (map number_of seats) i 0 ≢ n) → at n (map seen seats) ≡ None
+  pub not_there : (seats : List (Numbered V)) (n : ℕ) → ((i : ℕ) → i < length (map number_of seats) → get_or (map number_of seats) i 0 ≢ n)
+      → at n (map seen seats) ≡ None
   not_there seats n differ =
       let none : All (λ k. is_at (nat_cmp n) k ≡ false) (map number_of seats) = λ i d inside.
       apart (get_or (map number_of seats) i d) n (λ own. differ i inside (sym (get_or_default_zero (map number_of seats) i d inside) ∙ own)) in
@@ -92,7 +99,8 @@ module _ {V : Type 0} where
 
   pub not_found : (slots : List ℕ) (seats : List (Numbered V)) (es : List (ℕ × V)) (n : ℕ) → Placed slots (map number_of seats)
       → map seen seats ≡ es → Misses slots (map number_of seats) n → at n es ≡ None
-  not_found slots seats es n placed seen_is misses = subst (λ l. at n l ≡ None) seen_is (not_there seats n (misses_each slots (map number_of seats) n placed misses))
+  not_found slots seats es n placed seen_is misses =
+      subst (λ l. at n l ≡ None) seen_is (not_there seats n (misses_each slots (map number_of seats) n placed misses))
 
   -- ---- a value is written
 
@@ -116,7 +124,8 @@ module _ {V : Type 0} where
       ∙ ap (λ l. set_value (is_at (nat_cmp n)) l w) seen_is
 
   -- the numbers stay
-  pub same_numbers : (seats : List (Numbered V)) (i : ℕ) (d x : Numbered V) → i < length seats → number_of (get_or seats i d) ≡ number_of x → map number_of (slice_set seats i x) ≡ map number_of seats
+  pub same_numbers : (seats : List (Numbered V)) (i : ℕ) (d x : Numbered V) → i < length seats → number_of (get_or seats i d) ≡ number_of x
+      → map number_of (slice_set seats i x) ≡ map number_of seats
   same_numbers seats i d x inside own =
       map-set number_of seats i x
       ∙ (ap (slice_set (map number_of seats) i) (sym (get_or-map number_of seats i d 0 inside ∙ own)) ∙ set-get_or (map number_of seats) i 0)
@@ -126,16 +135,19 @@ module _ {V : Type 0} where
   -- a seat more, of a number that had none
   pub placed_more : (old new : List ℕ) (seats more : List (Numbered V)) (es : List (ℕ × V)) (n : ℕ) (x : Numbered V)
       → Placed old (map number_of seats) → map seen seats ≡ es → at n es ≡ None → number_of x ≡ n → more ≡ seats ++ x ∷ []
-      → length new ≡ length old → ((first p : ℕ) → 1 ≤ p → Reaches old first p → Reaches new first p) → Reaches new (home (length new) n) (length seats + 1) → Placed new (map number_of more)
+      → length new ≡ length old → ((first p : ℕ) → 1 ≤ p → Reaches old first p → Reaches new first p) → Reaches new (home (length new) n) (length seats + 1)
+      → Placed new (map number_of more)
   placed_more old new seats more es n x placed seen_is absent own is many others reach =
-      let numbers : map number_of more ≡ map number_of seats ++ n ∷ [] = ap (map number_of) is ∙ map-append number_of seats (x ∷ []) ∙ ap (λ k. map number_of seats ++ k ∷ []) own in
+      let numbers : map number_of more ≡ map number_of seats ++ n ∷ [] = ap (map number_of) is ∙ map-append number_of seats (x ∷ [])
+      ∙ ap (λ k. map number_of seats ++ k ∷ []) own in
       subst (Placed new) (sym numbers) (placed_one old new (map number_of seats) n placed
       (λ i inside same.
       let within : i < length seats = omega (arith, inside, length-map seats number_of) in
       some_none (sym (found old seats es n i x placed seen_is within (sym (get_or-map number_of seats i x 0 within) ∙ same)) ∙ absent))
       many others (subst (λ c. Reaches new (home (length new) n) (c + 1)) (sym (length-map seats number_of)) reach))
 
-  pub seen_more : (seats new : List (Numbered V)) (es : List (ℕ × V)) (x : Numbered V) → map seen seats ≡ es → new ≡ seats ++ x ∷ [] → map seen new ≡ es ++ seen x ∷ []
+  pub seen_more : (seats new : List (Numbered V)) (es : List (ℕ × V)) (x : Numbered V) → map seen seats ≡ es → new ≡ seats ++ x ∷ []
+      → map seen new ≡ es ++ seen x ∷ []
   seen_more seats new es x seen_is is = ap (map seen) is ∙ map-append seen seats (x ∷ []) ∙ ap (λ l. l ++ seen x ∷ []) seen_is
 
   -- ---- a number less
@@ -147,9 +159,11 @@ module _ {V : Type 0} where
       ap number_of own ∙ (sym (get_or-map number_of seats (count - 1) last 0 (omega (arith, many, some))) ∙ ap (λ k. get_or (map number_of seats) k 0) same)
 
   -- the i-th seat is gone, and the last has its place
-  pub seats_without : (seats new : List (Numbered V)) (i : ℕ) (x : Numbered V) → i < length seats → new ≡ swap_remove seats i x → IsWithout (map number_of seats) (map number_of new) i
+  pub seats_without : (seats new : List (Numbered V)) (i : ℕ) (x : Numbered V) → i < length seats → new ≡ swap_remove seats i x
+      → IsWithout (map number_of seats) (map number_of new) i
   seats_without seats new i x inside left =
-      let numbers : map number_of new ≡ swap_remove (map number_of seats) i (number_of x) = ap (map number_of) left ∙ map-swap_remove number_of seats i x (omega (arith, inside)) in
+      let numbers : map number_of new ≡ swap_remove (map number_of seats) i (number_of x) =
+      ap (map number_of) left ∙ map-swap_remove number_of seats i x (omega (arith, inside)) in
       subst (λ l. IsWithout (map number_of seats) l i) (sym numbers) (without (map number_of seats) i (number_of x) (simp length-map inside))
 
   -- the pairs are that of the seat, and those that are left

@@ -82,12 +82,14 @@ lookup-first q [] = refl
 lookup-first q (e ∷ es) = by (same_name q e.0) (lookup-first q es)
   where
     by : (b : Bool) → lookup (same_name q) es ≡ option_map (λ e. e.1) (first (filter (λ e. same_name q e.0) es))
-        → (if b then Some e.1 else lookup (same_name q) es) ≡ option_map (λ e. e.1) (first (if b then e ∷ filter (λ e. same_name q e.0) es else filter (λ e. same_name q e.0) es))
+        → (if b then Some e.1 else lookup (same_name q) es)
+        ≡ option_map (λ e. e.1) (first (if b then e ∷ filter (λ e. same_name q e.0) es else filter (λ e. same_name q e.0) es))
     by true later = refl
     by false later = later
 
 -- a name is found where its maker's table has its number
-pub lookup-named : {V : Type 0} (q : Name) (tables : List (ℕ × List (ℕ × V))) → IsOnce tables → lookup (same_name q) (named tables) ≡ at q.1 (table_at q.0 tables)
+pub lookup-named : {V : Type 0} (q : Name) (tables : List (ℕ × List (ℕ × V))) → IsOnce tables
+    → lookup (same_name q) (named tables) ≡ at q.1 (table_at q.0 tables)
 lookup-named {V} q tables once =
     lookup-first q (named tables)
     ∙ ap (λ (es : List (Name × V)). option_map (λ e. e.1) (first es)) (filter-named q tables once)
@@ -99,12 +101,14 @@ named-append [] ys = refl
 named-append (x ∷ xs) ys = ap (λ es. entries x.0 x.1 ++ es) (named-append xs ys) ∙ sym (append_assoc (entries x.0 x.1) (named xs) (named ys))
 
 -- an empty table adds no entry
-pub opened : {V : Type 0} (maker : ℕ) (tables news : List (ℕ × List (ℕ × V))) (table : List (ℕ × V)) → news ≡ tables ++ (maker, table) ∷ [] → table ≡ [] → named news ≡ named tables
+pub opened : {V : Type 0} (maker : ℕ) (tables news : List (ℕ × List (ℕ × V))) (table : List (ℕ × V)) → news ≡ tables ++ (maker, table) ∷ [] → table ≡ []
+    → named news ≡ named tables
 opened maker tables news table is empty =
     ap named (is ∙ ap (λ es. tables ++ (maker, es) ∷ []) empty) ∙ named-append tables ((maker, []) ∷ []) ∙ append-nil (named tables)
 
 -- what was written back with the entries that it had changes none
-pub written : {V : Type 0} (tables news : List (ℕ × List (ℕ × V))) (maker : ℕ) (was now : List (ℕ × V)) → at maker tables ≡ Some was → news ≡ set_value (is_at (nat_cmp maker)) tables now → now ≡ was
+pub written : {V : Type 0} (tables news : List (ℕ × List (ℕ × V))) (maker : ℕ) (was now : List (ℕ × V)) → at maker tables ≡ Some was
+    → news ≡ set_value (is_at (nat_cmp maker)) tables now → now ≡ was
     → named news ≡ named tables
 written tables news maker was now is set same =
     ap named (set ∙ ap (set_value (is_at (nat_cmp maker)) tables) same ∙ set_value_same (is_at (nat_cmp maker)) tables was is)
@@ -114,11 +118,14 @@ written tables news maker was now is set same =
 one_table : {V : Type 0} (q : Name) (v : V) (maker : ℕ) (es was : List (ℕ × V)) (rest : List (Name × V)) → es ≡ was → maker ≡ q.0
     → entries maker (was ++ (q.1, v) ∷ []) ++ rest ≡ entries maker es ++ (q, v) ∷ rest
 one_table {V} q v maker es was rest same own =
-    let more : entries maker (was ++ (q.1, v) ∷ []) ≡ entries maker was ++ ((maker, q.1), v) ∷ [] = map-append (λ (e : ℕ × V). ((maker, e.0), e.1)) was ((q.1, v) ∷ []) in
-    let apart : (entries maker was ++ ((maker, q.1), v) ∷ []) ++ rest ≡ entries maker was ++ ((maker, q.1), v) ∷ rest = append_assoc (entries maker was) (((maker, q.1), v) ∷ []) rest in
+    let more : entries maker (was ++ (q.1, v) ∷ []) ≡ entries maker was ++ ((maker, q.1), v) ∷ [] =
+    map-append (λ (e : ℕ × V). ((maker, e.0), e.1)) was ((q.1, v) ∷ []) in
+    let apart : (entries maker was ++ ((maker, q.1), v) ∷ []) ++ rest ≡ entries maker was ++ ((maker, q.1), v) ∷ rest =
+    append_assoc (entries maker was) (((maker, q.1), v) ∷ []) rest in
     rw (more, apart, own, same) refl
 
-added_here : {V : Type 0} (q : Name) (v : V) (table : ℕ × List (ℕ × V)) (tables : List (ℕ × List (ℕ × V))) (was : List (ℕ × V)) (mine : Bool) → is_at (nat_cmp q.0) table.0 ≡ mine
+added_here : {V : Type 0} (q : Name) (v : V) (table : ℕ × List (ℕ × V)) (tables : List (ℕ × List (ℕ × V))) (was : List (ℕ × V)) (mine : Bool)
+    → is_at (nat_cmp q.0) table.0 ≡ mine
     → (if mine then Some table.1 else at q.0 tables) ≡ Some was
     → (at q.0 tables ≡ Some was → Adds q v (named tables) (named (set_value (is_at (nat_cmp q.0)) tables (was ++ (q.1, v) ∷ []))))
     → Adds q v (named (table ∷ tables))
@@ -147,10 +154,12 @@ added : {V : Type 0} (q : Name) (v : V) (tables : List (ℕ × List (ℕ × V)))
 added q v [] was is = cc
 added q v (table ∷ tables) was is = added_here q v table tables was (is_at (nat_cmp q.0) table.0) refl is (λ later. added q v tables was later)
 
-pub added_through : {V : Type 0} (q : Name) (v : V) (tables news : List (ℕ × List (ℕ × V))) (was now : List (ℕ × V)) → at q.0 tables ≡ Some was → news ≡ set_value (is_at (nat_cmp q.0)) tables now
+pub added_through : {V : Type 0} (q : Name) (v : V) (tables news : List (ℕ × List (ℕ × V))) (was now : List (ℕ × V)) → at q.0 tables ≡ Some was
+    → news ≡ set_value (is_at (nat_cmp q.0)) tables now
     → now ≡ was ++ (q.1, v) ∷ [] → Adds q v (named tables) (named news)
 added_through {V} q v tables news was now is set more =
-    subst (λ (l : List (ℕ × List (ℕ × V))). Adds q v (named tables) (named l)) (sym (set ∙ ap (set_value (is_at (nat_cmp q.0)) tables) more)) (added q v tables was is)
+    subst (λ (l : List (ℕ × List (ℕ × V))). Adds q v (named tables) (named l)) (sym (set ∙ ap (set_value (is_at (nat_cmp q.0)) tables) more))
+    (added q v tables was is)
 
 -- ---- an entry less
 
@@ -184,16 +193,19 @@ one_left {V} gone q old new false is drops was =
     let P : List (ℕ × V) → Type 0 = λ es. IsThereOnce q (entries q.0 es) in
     subst P (sym (drops.others q.0 is)) (subst (λ (es : List (Name × V)). length es ≤ 1) (filter-named q old drops.olds) was)
 
-pub once_left : {V : Type 0} (gone q : Name) (old new : List (ℕ × List (ℕ × V))) → TableDrops gone old new → IsThereOnce q (named old) → IsThereOnce q (named new)
+pub once_left : {V : Type 0} (gone q : Name) (old new : List (ℕ × List (ℕ × V))) → TableDrops gone old new → IsThereOnce q (named old)
+    → IsThereOnce q (named new)
 once_left {V} gone q old new drops was =
     subst (λ (es : List (Name × V)). length es ≤ 1) (sym (filter-named q new drops.news)) (one_left gone q old new (gone.0 == q.0) refl drops was)
 
-written_table : {V : Type 0} (m maker : ℕ) (olds : List (ℕ × List (ℕ × V))) (now : List (ℕ × V)) (b : Bool) → b ≡ false → table_in (if b then Some now else at m olds) ≡ table_at m olds
+written_table : {V : Type 0} (m maker : ℕ) (olds : List (ℕ × List (ℕ × V))) (now : List (ℕ × V)) (b : Bool) → b ≡ false
+    → table_in (if b then Some now else at m olds) ≡ table_at m olds
 written_table m maker olds now true is = cc
 written_table m maker olds now false is = refl
 
 -- where the maker's table is changed through a reference to it
-pub drops_through : {V : Type 0} (gone : Name) (olds news : List (ℕ × List (ℕ × V))) (was now : List (ℕ × V)) → at gone.0 olds ≡ Some was → WritesThrough gone.0 olds now news → IsOnce olds
+pub drops_through : {V : Type 0} (gone : Name) (olds news : List (ℕ × List (ℕ × V))) (was now : List (ℕ × V)) → at gone.0 olds ≡ Some was
+    → WritesThrough gone.0 olds now news → IsOnce olds
     → ((n : ℕ) → at n now ≡ (if gone.1 == n then None else at n was)) → IsOnce now → TableDrops gone olds news
 drops_through {V} gone olds news was now is through once removed once_now =
     let some : IsSome (at gone.0 olds) = rw is refl in
@@ -215,10 +227,12 @@ none_twice : (V : Type 0) → IsOnce {V = V} []
 none_twice V = IsDistinct-from_apart (eq_by_cmp nat_cmp) [] (λ i j d before within. absurd (omega (arith, within)))
 
 -- where the maker has no table
-pub drops_none : {V : Type 0} (gone : Name) (olds news : List (ℕ × List (ℕ × V))) → at gone.0 olds ≡ None → news ≡ olds → IsOnce olds → TableDrops gone olds news
+pub drops_none : {V : Type 0} (gone : Name) (olds news : List (ℕ × List (ℕ × V))) → at gone.0 olds ≡ None → news ≡ olds → IsOnce olds
+    → TableDrops gone olds news
 drops_none {V} gone olds news none same once =
     subst (λ (l : List (ℕ × List (ℕ × V))). TableDrops gone olds l) (sym same) (record {
-      found = λ n. ap (λ found. at n (table_in found)) none ∙ none_either_way (gone.1 == n) ∙ ap (λ found. if gone.1 == n then None else at n (table_in found)) (sym none);
+      found = λ n. ap (λ found. at n (table_in found)) none ∙ none_either_way (gone.1 == n)
+          ∙ ap (λ found. if gone.1 == n then None else at n (table_in found)) (sym none);
       once = subst (λ (found : Option (List (ℕ × V))). IsOnce (table_in found)) (sym none) (none_twice V);
       others = λ m other. refl;
       olds = once;
@@ -227,7 +241,8 @@ drops_none {V} gone olds news none same once =
 
 -- ---- an entry taken out
 
-taken_here : {V : Type 0} (q : Name) (v : V) (table : ℕ × List (ℕ × V)) (tables : List (ℕ × List (ℕ × V))) (was now : List (ℕ × V)) (mine : Bool) → is_at (nat_cmp q.0) table.0 ≡ mine
+taken_here : {V : Type 0} (q : Name) (v : V) (table : ℕ × List (ℕ × V)) (tables : List (ℕ × List (ℕ × V))) (was now : List (ℕ × V)) (mine : Bool)
+    → is_at (nat_cmp q.0) table.0 ≡ mine
     → (if mine then Some table.1 else at q.0 tables) ≡ Some was → IsPermutation was ((q.1, v) ∷ now)
     → (at q.0 tables ≡ Some was → IsPermutation (named tables) ((q, v) ∷ named (set_value (is_at (nat_cmp q.0)) tables now)))
     → IsPermutation (named (table ∷ tables)) ((q, v) ∷ named (if mine then (table.0, now) ∷ tables else table ∷ set_value (is_at (nat_cmp q.0)) tables now))
@@ -243,10 +258,12 @@ taken_here {V} q v table tables was now false own is taken later =
     (IsPermutation-middle (entries table.0 table.1) (q, v) rest)
 
 -- the maker's table with one entry less
-taken : {V : Type 0} (q : Name) (v : V) (tables : List (ℕ × List (ℕ × V))) (was now : List (ℕ × V)) → at q.0 tables ≡ Some was → IsPermutation was ((q.1, v) ∷ now)
+taken : {V : Type 0} (q : Name) (v : V) (tables : List (ℕ × List (ℕ × V))) (was now : List (ℕ × V)) → at q.0 tables ≡ Some was
+    → IsPermutation was ((q.1, v) ∷ now)
     → IsPermutation (named tables) ((q, v) ∷ named (set_value (is_at (nat_cmp q.0)) tables now))
 taken q v [] was now is moved = cc
-taken q v (table ∷ tables) was now is moved = taken_here q v table tables was now (is_at (nat_cmp q.0) table.0) refl is moved (λ later. taken q v tables was now later moved)
+taken q v (table ∷ tables) was now is moved =
+    taken_here q v table tables was now (is_at (nat_cmp q.0) table.0) refl is moved (λ later. taken q v tables was now later moved)
 
 pub taken_through : {V : Type 0} (q : Name) (found : Option V) (tables news : List (ℕ × List (ℕ × V))) (was now : List (ℕ × V))
     → at q.0 tables ≡ Some was → news ≡ set_value (is_at (nat_cmp q.0)) tables now

@@ -18,8 +18,10 @@ use Rattle.jg_lists.specs.ByThread.{at, IsOnce}
 use Rattle.jg_lists.proofs.Tables.{lookup-named}
 
 -- the number of a seat is found
-pub number_found : {V : Type 0} (maker : ℕ) (tables : List (ℕ × List (ℕ × V))) (numbers : List (ℕ × V)) (seats : List (Numbered V)) (i : ℕ) (seat : Numbered V) → IsOnce tables
-    → at maker tables ≡ Some numbers → map seen seats ≡ numbers → slice_get seats i ≡ Some seat → IsSome (lookup (same_name (maker, seat.number)) (named tables))
+pub number_found : {V : Type 0} (maker : ℕ) (tables : List (ℕ × List (ℕ × V))) (numbers : List (ℕ × V)) (seats : List (Numbered V)) (i : ℕ) (seat : Numbered V)
+    → IsOnce tables
+    → at maker tables ≡ Some numbers → map seen seats ≡ numbers → slice_get seats i ≡ Some seat
+    → IsSome (lookup (same_name (maker, seat.number)) (named tables))
 number_found {V} maker tables numbers seats i seat once has are is =
     let keys : List ℕ = map (λ s. s.number) seats in
     let test : ℕ → Bool = is_at (nat_cmp seat.number) in
@@ -32,13 +34,15 @@ number_found {V} maker tables numbers seats i seat once has are is =
     ∙ any_passes_from_place test keys i seat.number here own
 
 -- a maker that has no table, or an empty one, has no number
-pub none_found : {V : Type 0} (maker : ℕ) (tables : List (ℕ × List (ℕ × V))) → IsOnce tables → table_in (at maker tables) ≡ [] → (n : ℕ) → lookup (same_name (maker, n)) (named tables) ≡ None
+pub none_found : {V : Type 0} (maker : ℕ) (tables : List (ℕ × List (ℕ × V))) → IsOnce tables → table_in (at maker tables) ≡ [] → (n : ℕ)
+    → lookup (same_name (maker, n)) (named tables) ≡ None
 none_found {V} maker tables once empty n = lookup-named (maker, n) tables once ∙ ap (λ (es : List (ℕ × V)). at n es) empty
 
 pub no_seat : {V : Type 0} (seats : List (Numbered V)) → slice_get seats (length seats - 1) ≡ None → map seen seats ≡ []
 no_seat [] none = refl
 no_seat (s ∷ seats) none =
-    let last : slice_get (s ∷ seats) (length (s ∷ seats) - 1) ≡ Some (get_or (s ∷ seats) (length (s ∷ seats) - 1) s) = slice_get-get_or (s ∷ seats) (length (s ∷ seats) - 1) s (omega arith) in
+    let last : slice_get (s ∷ seats) (length (s ∷ seats) - 1) ≡ Some (get_or (s ∷ seats) (length (s ∷ seats) - 1) s) =
+    slice_get-get_or (s ∷ seats) (length (s ∷ seats) - 1) s (omega arith) in
     absurd (none-some _ (sym none ∙ last))
 
 -- ---- one after the other
@@ -58,7 +62,8 @@ leaves_more maker old mid new first later = record {
 abbrev pub Clears : {V : Type 0} → ℕ → List (Name × V) → List (Name × V) → Type 0
 Clears maker old new = (q : Name) → lookup (same_name q) new ≡ (if maker == q.0 then None else lookup (same_name q) old)
 
-pub cleared : {V : Type 0} (maker : ℕ) (old new : List (Name × V)) → Leaves maker old new → ((n : ℕ) → lookup (same_name (maker, n)) new ≡ None) → Clears maker old new
+pub cleared : {V : Type 0} (maker : ℕ) (old new : List (Name × V)) → Leaves maker old new → ((n : ℕ) → lookup (same_name (maker, n)) new ≡ None)
+    → Clears maker old new
 cleared {V} maker old new leaves none q = by (maker == q.0) refl
   where
     by : (b : Bool) → (maker == q.0) ≡ b → lookup (same_name q) new ≡ (if b then None else lookup (same_name q) old)

@@ -24,7 +24,8 @@ pub set_once : {V : Type 0} (es : List (ℕ × V)) (t : ℕ) (w : V) → IsOnce 
 set_once es t w once = subst (IsDistinct (eq_by_cmp nat_cmp)) (sym (keys-set_value (is_at (nat_cmp t)) es w)) once
 
 -- a value is written, and the numbers stay as small as they were
-pub set_below : {V : Type 0} (bound : ℕ) (es news : List (ℕ × V)) (t : ℕ) (w : V) → news ≡ set_value (is_at (nat_cmp t)) es w → All (λ e. e.0 < bound) es → All (λ e. e.0 < bound) news
+pub set_below : {V : Type 0} (bound : ℕ) (es news : List (ℕ × V)) (t : ℕ) (w : V) → news ≡ set_value (is_at (nat_cmp t)) es w → All (λ e. e.0 < bound) es
+    → All (λ e. e.0 < bound) news
 set_below {V} bound es news t w is all =
     all_mapped (λ (e : ℕ × V). e.0) (λ n. n < bound) news
     (subst (All (λ n. n < bound)) (sym (ap keys_of is ∙ keys-set_value (is_at (nat_cmp t)) es w)) (All-map (λ n. n < bound) (λ (e : ℕ × V). e.0) es all))
@@ -34,7 +35,8 @@ pub removed_below : {V : Type 0} (bound : ℕ) (es news : List (ℕ × V)) (n : 
     → IfSome gone (λ v. IsPermutation es ((n, v) ∷ news)) → (gone ≡ None → news ≡ es) → All (λ e. e.0 < bound) news
 removed_below bound es news n None all taken none = subst (All (λ e. e.0 < bound)) (sym (none refl)) all
 removed_below bound es news n (Some v) all taken none =
-    All-from_recursion (λ e. e.0 < bound) news (recursion_from_All (λ e. e.0 < bound) ((n, v) ∷ news) (All-permutation (λ e. e.0 < bound) es ((n, v) ∷ news) taken all)).1
+    All-from_recursion (λ e. e.0 < bound) news
+    (recursion_from_All (λ e. e.0 < bound) ((n, v) ∷ news) (All-permutation (λ e. e.0 < bound) es ((n, v) ∷ news) taken all)).1
 
 alike : (t x y : ℕ) → is_at (nat_cmp t) x ≡ true → is_at (nat_cmp t) y ≡ eq_by_cmp nat_cmp x y
 alike t x y own = grind (arith, nat_tests, own)
@@ -46,7 +48,8 @@ is_some_by : {V : Type 0} (found : Option V) (v : V) → found ≡ Some v → Is
 is_some_by found v is = rw is refl
 
 -- the number finds what was written, and each other one what it found
-pub set_at : {V : Type 0} (es : List (ℕ × V)) (t q : ℕ) (v w : V) → at t es ≡ Some v → at q (set_value (is_at (nat_cmp t)) es w) ≡ (if t == q then Some w else at q es)
+pub set_at : {V : Type 0} (es : List (ℕ × V)) (t q : ℕ) (v w : V) → at t es ≡ Some v
+    → at q (set_value (is_at (nat_cmp t)) es w) ≡ (if t == q then Some w else at q es)
 set_at es t q v w is =
     lookup-set_value (eq_by_cmp_equiv nat_cmp_total) (is_at (nat_cmp t)) (alike t) q w es (is_some_by (at t es) v is)
     ∙ ap (λ b. if b then Some w else at q es) (turned t q)
@@ -62,7 +65,8 @@ written_at : {V : Type 0} (es : List (ℕ × V)) (t q : ℕ) (v w : V) (change :
     → at q (set_value (is_at (nat_cmp t)) es w) ≡ (if t == q then option_map change (at q es) else at q es)
 written_at es t q v w change is now = set_at es t q v w is ∙ changed_at es t q v w change (t == q) refl is now
 
-added_by : {V : Type 0} (t q : ℕ) (v : V) (e : ℕ × V) (es : List (ℕ × V)) (mine same : Bool) → (e.0 == q) ≡ mine → (t == q) ≡ same → is_at (nat_cmp t) e.0 ≡ false
+added_by : {V : Type 0} (t q : ℕ) (v : V) (e : ℕ × V) (es : List (ℕ × V)) (mine same : Bool) → (e.0 == q) ≡ mine → (t == q) ≡ same
+    → is_at (nat_cmp t) e.0 ≡ false
     → at q (es ++ (t, v) ∷ []) ≡ (if t == q then Some v else at q es)
     → (if mine then Some e.1 else at q (es ++ (t, v) ∷ [])) ≡ (if same then Some v else (if mine then Some e.1 else at q es))
 added_by t q v e es true true mine same other later = absurd (both (grind (arith, nat_tests)) other)
@@ -88,7 +92,8 @@ added_at (e ∷ es) t q v none =
     rw (at_key q e.0) (added_by t q v e es (e.0 == q) (t == q) refl refl (none_head (at t es) e.1 (is_at (nat_cmp t) e.0) none)
     (added_at es t q v (none_tail (at t es) e.1 (is_at (nat_cmp t) e.0) none)))
 
-removed_by : {V : Type 0} (n q : ℕ) (v : V) (es fs : List (ℕ × V)) (b : Bool) → (n == q) ≡ b → at n fs ≡ None → at q ((n, v) ∷ fs) ≡ at q es → at q fs ≡ (if b then None else at q es)
+removed_by : {V : Type 0} (n q : ℕ) (v : V) (es fs : List (ℕ × V)) (b : Bool) → (n == q) ≡ b → at n fs ≡ None → at q ((n, v) ∷ fs) ≡ at q es
+    → at q fs ≡ (if b then None else at q es)
 removed_by n q v es fs true same none all = ap (λ k. at k fs) (sym (eqb-true n q same)) ∙ none
 removed_by n q v es fs false differ none all =
     let other : is_at (nat_cmp q) n ≡ false = grind (arith, nat_tests, differ) in
@@ -103,7 +108,8 @@ pub moved_at : {V : Type 0} (es fs : List (ℕ × V)) (q : ℕ) → IsOnce es �
 moved_at es fs q once moves = lookup_permutation (eq_by_cmp_equiv nat_cmp_total) es fs moves (moved_once es fs once moves) (is_at (nat_cmp q)) (alike q)
 
 -- the number finds nothing once its value was taken out, and each other one what it found
-pub removed_at : {V : Type 0} (es fs : List (ℕ × V)) (n q : ℕ) (v : V) → IsOnce es → IsPermutation es ((n, v) ∷ fs) → at n fs ≡ None → at q fs ≡ (if n == q then None else at q es)
+pub removed_at : {V : Type 0} (es fs : List (ℕ × V)) (n q : ℕ) (v : V) → IsOnce es → IsPermutation es ((n, v) ∷ fs) → at n fs ≡ None
+    → at q fs ≡ (if n == q then None else at q es)
 removed_at es fs n q v once moves none = removed_by n q v es fs (n == q) refl none (moved_at es ((n, v) ∷ fs) q once moves)
 
 -- nothing is taken out where the number has no value
@@ -119,7 +125,8 @@ any_in p [] = refl
 any_in p (seat ∷ seats) = ap (λ b. p seat.value || b) (any_in p seats)
 
 -- whether some thread's value passes
-any_value : {V : Type 0} (p : V → Bool) (seats : List (Numbered V)) (es : List (ℕ × V)) → map seen seats ≡ es → list_any (λ seat. p seat.value) seats ≡ list_any p (values_of es)
+any_value : {V : Type 0} (p : V → Bool) (seats : List (Numbered V)) (es : List (ℕ × V)) → map seen seats ≡ es
+    → list_any (λ seat. p seat.value) seats ≡ list_any p (values_of es)
 any_value p seats es is = any_in p seats ∙ ap (λ l. list_any p (values_of l)) is
 
 -- the marks of what some thread's value names

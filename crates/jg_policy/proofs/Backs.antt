@@ -45,7 +45,12 @@ mode_back Deny = refl
 
 pub setup_back : (s : StatedSetup) → setup_stated (setup_tree s) ≡ s
 setup_back s =
-    rw (mode_back s.mode, each_back grant_stated (λ g. table (grant_tree g)) grant_back s.grants, each_back class_stated (λ c. table (class_tree c)) class_back s.classes) refl
+    rw (
+      mode_back s.mode,
+      each_back grant_stated (λ g. table (grant_tree g)) grant_back s.grants,
+      each_back class_stated (λ c. table (class_tree c)) class_back
+          s.classes,
+    ) refl
 
 -- ---- the tree isn't deep
 
@@ -66,7 +71,8 @@ class_flat c =
     let natives : items_depth (items_of (members_data c.natives)) ≤ 1 = members_flat c.natives in
     grind (arith, nat_tests)
 
-words_flat : (load register link : Bool) → items_depth (items_of ((word_if load (codes "load") ++ word_if register (codes "register")) ++ word_if link (codes "link"))) ≤ 0
+words_flat : (load register link : Bool)
+    → items_depth (items_of ((word_if load (codes "load") ++ word_if register (codes "register")) ++ word_if link (codes "link"))) ≤ 0
 words_flat true true true = omega arith
 words_flat true true false = omega arith
 words_flat true false true = omega arith

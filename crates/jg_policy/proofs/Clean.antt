@@ -31,17 +31,26 @@ member_clean spelling m h =
     let both = and_parts (accepts MemberName m.name) (accepts spelling m.signature) h in
     rw (text_clean MemberName m.name both.0, text_clean spelling m.signature both.1) refl
 
-members_clean : (spelling : Spelling) (ms : List StatedMember) → list_all (is_member_spelt spelling) ms ≡ true → each_of (member_faults spelling) (items_of (members_data ms)) ≡ []
+members_clean : (spelling : Spelling) (ms : List StatedMember) → list_all (is_member_spelt spelling) ms ≡ true
+    → each_of (member_faults spelling) (items_of (members_data ms)) ≡ []
 members_clean spelling ms = each_clean (member_faults spelling) (λ m. table (member_tree m)) (is_member_spelt spelling) (member_clean spelling) ms
 
 class_clean : (c : StatedClass) → is_class_spelt c ≡ true → class_faults (table (class_tree c)) ≡ []
 class_clean c h =
-    let halves = and_parts (accepts ClassName c.name && accepts ModuleName c.module_name) (list_all (is_member_spelt FieldType) c.fields && list_all (is_member_spelt NativeType) c.natives) h in
+    let halves = and_parts (accepts ClassName c.name && accepts ModuleName c.module_name)
+    (list_all (is_member_spelt FieldType) c.fields && list_all (is_member_spelt NativeType) c.natives) h in
     let names = and_parts (accepts ClassName c.name) (accepts ModuleName c.module_name) halves.0 in
     let members = and_parts (list_all (is_member_spelt FieldType) c.fields) (list_all (is_member_spelt NativeType) c.natives) halves.1 in
-    rw (text_clean ClassName c.name names.0, text_clean ModuleName c.module_name names.1, members_clean FieldType c.fields members.0, members_clean NativeType c.natives members.1) refl
+    rw (
+      text_clean ClassName c.name names.0,
+      text_clean ModuleName c.module_name names.1,
+      members_clean FieldType c.fields members.0,
+      members_clean NativeType
+          c.natives members.1,
+    ) refl
 
-words_clean : (load register link : Bool) → each_of operation_faults (items_of ((word_if load (codes "load") ++ word_if register (codes "register")) ++ word_if link (codes "link"))) ≡ []
+words_clean : (load register link : Bool)
+    → each_of operation_faults (items_of ((word_if load (codes "load") ++ word_if register (codes "register")) ++ word_if link (codes "link"))) ≡ []
 words_clean true true true = refl
 words_clean true true false = refl
 words_clean true false true = refl
@@ -71,7 +80,8 @@ shape_clean s h =
 no_more : (s : StatedSetup) → states_twice s.classes ≡ false → is_too_large s ≡ false → repeat_faults s ++ excess_faults s ≡ []
 no_more s once small = rw (once, small) refl
 
-pub tree_clean : (s : StatedSetup) → are_spelt s.grants s.classes ≡ true → states_twice s.classes ≡ false → is_too_large s ≡ false → tree_faults (setup_tree s) ≡ []
+pub tree_clean : (s : StatedSetup) → are_spelt s.grants s.classes ≡ true → states_twice s.classes ≡ false → is_too_large s ≡ false
+    → tree_faults (setup_tree s) ≡ []
 tree_clean s spelt once small =
     ap (λ found. found ++ (repeat_faults (setup_stated (setup_tree s)) ++ excess_faults (setup_stated (setup_tree s)))) (shape_clean s spelt)
     ∙ ap (λ t. repeat_faults t ++ excess_faults t) (setup_back s) ∙ no_more s once small

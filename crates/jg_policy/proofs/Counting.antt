@@ -91,7 +91,8 @@ module _ {A : Type 0} (same : A → A → Bool) (equal : (q k : A) → same q k 
       none_kept [] e = refl
       none_kept (x ∷ xs) e = go (keeps x) (same q x) refl refl (none_kept xs e)
         where
-          go : (b s : Bool) → keeps x ≡ b → same q x ≡ s → how_many (same q) (filter keeps xs) ≡ 0 → how_many (same q) (cond b (x ∷ filter keeps xs) (filter keeps xs)) ≡ 0
+          go : (b s : Bool) → keeps x ≡ b → same q x ≡ s → how_many (same q) (filter keeps xs) ≡ 0
+              → how_many (same q) (cond b (x ∷ filter keeps xs) (filter keeps xs)) ≡ 0
           go true true b t rest = absurd (false≢true (sym e ∙ rw (equal q x t) b))
           go true false b t rest = rw t rest
           go false s b t rest = rest

@@ -16,7 +16,8 @@ pub is_linked : (e : List Event) (class native : ℕ) → linked e class native 
 is_linked [] class native h = absurd (false≢true h)
 is_linked (Linked c n ∷ e) class native h = by (class == c && native == n) refl h (is_linked e class native)
   where
-    by : (b : Bool) → (class == c && native == n) ≡ b → (b || linked e class native) ≡ true → (linked e class native ≡ true → IsLinked e class native) → IsLinked (Linked c n ∷ e) class native
+    by : (b : Bool) → (class == c && native == n) ≡ b → (b || linked e class native) ≡ true → (linked e class native ≡ true → IsLinked e class native)
+        → IsLinked (Linked c n ∷ e) class native
     by true same h rest =
         let tests = and_parts _ _ same in
         let c_is : class ≡ c = eqb-true class c tests.0 in
@@ -30,13 +31,16 @@ is_linked (UnlinkedAll c ∷ e) class native h =
     (is_linked e class native both.1)
 is_linked (Warned home ∷ e) class native h = later_by class native (Warned home) e (λ is. cc) (is_linked e class native h)
 
-stays_linked : (later before : List Event) (class native : ℕ) → All (λ ev. ev ≢ UnlinkedAll class) later → linked (later ++ Linked class native ∷ before) class native ≡ true
+stays_linked : (later before : List Event) (class native : ℕ) → All (λ ev. ev ≢ UnlinkedAll class) later
+    → linked (later ++ Linked class native ∷ before) class native ≡ true
 stays_linked [] before class native none = rw (eqb_self class, eqb_self native)
 stays_linked (Linked c n ∷ later) before class native none =
     rw (stays_linked later before class native (λ k d h. none (suc k) d (omega arith))) (or-true (class == c && native == n))
-stays_linked (UnlinkedAll c ∷ later) before class native none = by (c == class) refl (stays_linked later before class native (λ k d h. none (suc k) d (omega arith)))
+stays_linked (UnlinkedAll c ∷ later) before class native none =
+    by (c == class) refl (stays_linked later before class native (λ k d h. none (suc k) d (omega arith)))
   where
-    by : (b : Bool) → (c == class) ≡ b → linked (later ++ Linked class native ∷ before) class native ≡ true → (not b && linked (later ++ Linked class native ∷ before) class native) ≡ true
+    by : (b : Bool) → (c == class) ≡ b → linked (later ++ Linked class native ∷ before) class native ≡ true
+        → (not b && linked (later ++ Linked class native ∷ before) class native) ≡ true
     by true same rest = absurd (none 0 (UnlinkedAll c) (omega arith) (ap UnlinkedAll (eqb-true c class same)))
     by false same rest = rest
 stays_linked (Warned home ∷ later) before class native none = stays_linked later before class native (λ k d h. none (suc k) d (omega arith))
@@ -53,7 +57,8 @@ is_warned (Linked c n ∷ e) home h = warned_before (Linked c n) e home (is_warn
 is_warned (UnlinkedAll c ∷ e) home h = warned_before (UnlinkedAll c) e home (is_warned e home h)
 is_warned (Warned other ∷ e) home h = by (home == other) refl h (is_warned e home)
   where
-    by : (b : Bool) → (home == other) ≡ b → (b || warned e home) ≡ true → (warned e home ≡ true → Contains e (Warned home)) → Contains (Warned other ∷ e) (Warned home)
+    by : (b : Bool) → (home == other) ≡ b → (b || warned e home) ≡ true → (warned e home ≡ true → Contains e (Warned home))
+        → Contains (Warned other ∷ e) (Warned home)
     by true same h rest = rw (eqb-true home other same) (Contains-append_left (Warned other ∷ []) e (Warned other) (Contains-push [] (Warned other)))
     by false same h rest = warned_before (Warned other) e home (rest h)
 

@@ -54,7 +54,8 @@ module _ (links : List Link) (warnings : List ℕ) (e : List Event) (stands : St
 
   -- where each link is there once, and just those of the class are gone
   pub after_unlink : (class : ℕ) (new : List Link) → ((q : Link) → how_many (same_link q) new ≡ once_if (list_any (same_link q) new))
-      → ((q : Link) → list_any (same_link q) new ≡ (not (class == q.class) && list_any (same_link q) links)) → Stands (rows_of new warnings) (UnlinkedAll class ∷ e)
+      → ((q : Link) → list_any (same_link q) new ≡ (not (class == q.class) && list_any (same_link q) links))
+      → Stands (rows_of new warnings) (UnlinkedAll class ∷ e)
   after_unlink class new once gone = record {
     linked =
         λ c n.
@@ -122,7 +123,8 @@ abbrev Gone : ℕ → List Link → List Link → Type 0
 Gone class links new = (q : Link) → list_any (same_link q) new ≡ (not (class == q.class) && list_any (same_link q) links)
 
 pub gone_all : (links new : List Link) (old : List (ℕ × ℕ)) (class most : ℕ) → greatest_of class old ≡ Some most
-    → ((q : Link) → list_any (same_link q) new ≡ (if class == q.class && nat_le q.native most then false else list_any (same_link q) links)) → AreUpTo links old → Gone class links new
+    → ((q : Link) → list_any (same_link q) new ≡ (if class == q.class && nat_le q.native most then false else list_any (same_link q) links)) → AreUpTo links old
+    → Gone class links new
 gone_all links new old class most is dropped all q = dropped q ∙ by (class == q.class) refl (nat_le q.native most) refl (list_any (same_link q) links) refl
   where
     by : (c : Bool) → (class == q.class) ≡ c → (le : Bool) → nat_le q.native most ≡ le → (there : Bool) → list_any (same_link q) links ≡ there

@@ -70,7 +70,8 @@ module _ (members : List StatedMember) where
           let above : (number == 0) ≡ false = grind (arith, nat_tests) in
           let place_is : i ≡ number - 1 = omega arith in
           let there : slice_get members (number - 1) ≡ Some found.0 = subst (λ (k : ℕ). slice_get members k ≡ Some found.0) place_is found.1 in
-          rw above (there ∙ ap (λ m. Some m) (member_is found.0 name signature (equal_bytes name found.0.name parts.0) (equal_bytes signature found.0.signature parts.1)))
+          rw above (there ∙ ap (λ m. Some m)
+          (member_is found.0 name signature (equal_bytes name found.0.name parts.0) (equal_bytes signature found.0.signature parts.1)))
 
   pub one_member_name : (number : ℕ) (name other signature second : List ℕ) → member_named name signature members ≡ Some number
       → member_named other second members ≡ Some number → (name ≡ other) × (signature ≡ second)

@@ -13,6 +13,7 @@ by_order Less a b c = refl
 by_order Equal a b c = refl
 by_order Greater a b c = refl
 
-pub members_view-insert_entry : (es : List Entry) (k : String Global) (v : Value) → members_view (insert_entry string_cmp es k v) ≡ put (string_bytes k) (view v) (members_view es)
+pub members_view-insert_entry : (es : List Entry) (k : String Global) (v : Value)
+    → members_view (insert_entry string_cmp es k v) ≡ put (string_bytes k) (view v) (members_view es)
 members_view-insert_entry [] k v = refl
 members_view-insert_entry (e ∷ es) k v = by_order (string_cmp k e.0) _ _ _ ∙ rw (members_view-insert_entry es k v)

@@ -84,7 +84,10 @@ module _ (s : StatedSetup) (name : List ℕ) where
       → class_named s name ≡ option_map (λ i. 15 + i) (position (λ k. bytes_eq name (string_bytes k)) (map (λ e. e.0) es))
   named_later none es kept =
       position-append (bytes_eq name) base_names (class_names s)
-      ∙ rw (← none, count_base, ← kept) (ap (option_map (λ i. 15 + i)) (sym (twice es ∙ position-map (map class_view es) (λ (c : StatedClass). c.name) (bytes_eq name))))
+      ∙ rw (← none, count_base, ← kept)
+      (ap (option_map (λ i. 15 + i)) (sym (twice es ∙ position-map (map class_view es) (λ (c : StatedClass). c.name) (bytes_eq name))))
     where
-      twice : (es : Entries) → position (λ k. bytes_eq name (string_bytes k)) (map (λ e. e.0) es) ≡ position (λ (c : StatedClass). bytes_eq name c.name) (map class_view es)
-      twice es = sym (position-map es (λ (e : String Global × Class). e.0) (λ k. bytes_eq name (string_bytes k))) ∙ position-map es class_view (λ (c : StatedClass). bytes_eq name c.name)
+      twice : (es : Entries) → position (λ k. bytes_eq name (string_bytes k)) (map (λ e. e.0) es)
+          ≡ position (λ (c : StatedClass). bytes_eq name c.name) (map class_view es)
+      twice es = sym (position-map es (λ (e : String Global × Class). e.0) (λ k. bytes_eq name (string_bytes k)))
+          ∙ position-map es class_view (λ (c : StatedClass). bytes_eq name c.name)

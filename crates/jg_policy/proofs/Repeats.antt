@@ -75,12 +75,14 @@ repeats_name-last cs c =
     )
 
 -- a class whose name is a base class's
-pub twice_base : (cs : List StatedClass) (c : StatedClass) (rest : List StatedClass) → list_any (bytes_eq c.name) base_names ≡ true → states_twice ((cs ++ c ∷ []) ++ rest) ≡ true
+pub twice_base : (cs : List StatedClass) (c : StatedClass) (rest : List StatedClass) → list_any (bytes_eq c.name) base_names ≡ true
+    → states_twice ((cs ++ c ∷ []) ++ rest) ≡ true
 twice_base cs c rest h =
     twice_grows (cs ++ c ∷ []) rest (rw (repeats_name-last cs c, h, or-true (repeats_name (names cs))))
 
 -- a class whose name is an earlier one's
-pub twice_name : (cs : List StatedClass) (c : StatedClass) (rest : List StatedClass) → list_any (bytes_eq c.name) (names cs) ≡ true → states_twice ((cs ++ c ∷ []) ++ rest) ≡ true
+pub twice_name : (cs : List StatedClass) (c : StatedClass) (rest : List StatedClass) → list_any (bytes_eq c.name) (names cs) ≡ true
+    → states_twice ((cs ++ c ∷ []) ++ rest) ≡ true
 twice_name cs c rest h =
     twice_grows (cs ++ c ∷ []) rest (rw (repeats_name-last cs c, h, or-true (list_any (bytes_eq c.name) base_names), or-true (repeats_name (names cs))))
 
@@ -93,7 +95,8 @@ once_stated cs c base new own none =
 
 -- ---- as they are kept
 
-pub any_named : (name : List ℕ) (es : List (String Global × Class)) → list_any (bytes_eq name) (names (map class_view es)) ≡ is_some (lookup (λ k. bytes_eq name (string_bytes k)) es)
+pub any_named : (name : List ℕ) (es : List (String Global × Class))
+    → list_any (bytes_eq name) (names (map class_view es)) ≡ is_some (lookup (λ k. bytes_eq name (string_bytes k)) es)
 any_named name [] = refl
 any_named name (e ∷ es) = by_test (bytes_eq name (string_bytes e.0)) e.1 _ _ (any_named name es)
   where

@@ -50,7 +50,8 @@ name_put k name held names is = rw (flipped name k.now, list_any-append (bytes_e
 
 -- a name and a type that were put among those before them
 pub pair_put : (k : Text × Text) (m : StatedMember) (held : Bool) (members : List StatedMember) → held ≡ list_any (same_member m) members
-    → cond (is_eq (pair_order k (text m.name, text m.signature))) true held ≡ list_any (same_member m) (members ++ record { name = k.0.now; signature = k.1.now } ∷ [])
+    → cond (is_eq (pair_order k (text m.name, text m.signature))) true held
+    ≡ list_any (same_member m) (members ++ record { name = k.0.now; signature = k.1.now } ∷ [])
 pair_put k m held members is =
     rw (
       both_equal (text_order k.0 (text m.name)) (text_order k.1 (text m.signature)),

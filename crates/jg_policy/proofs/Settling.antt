@@ -16,7 +16,7 @@ use Rattle.jg_policy.specs.declared.grant.Grant.{Grant}
 use Rattle.jg_policy.specs.declared.setup.settling.Settled.{Settled}
 use Rattle.jg_policy.specs.Stated.{StatedClass, StatedSetup}
 use Rattle.jg_policy.specs.Classes.{module_name_of, module_names, module_of}
-use Rattle.jg_policy.specs.Access.{allows, is_granted, is_enabled, module_access, access_by, access_of}
+use Rattle.jg_policy.specs.NativeAccess.{allows, is_granted, is_enabled, module_access, access_by, access_of}
 use Rattle.jg_policy.specs.Kept.{grant_view, class_view}
 use Rattle.jg_policy.specs.Settling.{settled_for, settled_view, settled_access, AreSettled}
 use Rattle.jg_policy.proofs.Places.{or_later, position-cons}
@@ -42,7 +42,12 @@ pub granted_more : (known : Bool) (name : List ℕ) (operation : Operation) (gs 
     → ((known || is_granted (map grant_view (take i gs)) name operation) || (bytes_eq name (string_bytes g.module_name) && allows (grant_view g) operation))
     ≡ (known || is_granted (map grant_view (take (i + 1) gs)) name operation)
 granted_more known name operation gs i g below is =
-    rw (map_more grant_view gs i g below, list_any-append (λ s. bytes_eq name s.module_name && allows s operation) (map grant_view (take i gs)) (grant_view (get_or gs i g) ∷ []), ← is)
+    rw (
+      map_more grant_view gs i g below,
+      list_any-append (λ s. bytes_eq name s.module_name && allows s operation) (map grant_view (take i gs))
+          (grant_view (get_or gs i g) ∷ []),
+      ← is,
+    )
     (by known (is_granted (map grant_view (take i gs)) name operation) (bytes_eq name (string_bytes g.module_name) && allows (grant_view g) operation))
   where
     by : (a b c : Bool) → ((a || b) || c) ≡ (a || (b || (c || false)))
@@ -78,7 +83,8 @@ module _ (names : List (List ℕ)) where
         here : position (bytes_eq name) (name ∷ left) ≡ Some 0
         here = position-cons (bytes_eq name) name left ∙ rw (nat_list_eq_equiv.refl name) refl
 
-        by : (o : Option ℕ) → or_later next o (position (bytes_eq name) (name ∷ left)) ≡ position (bytes_eq name) names → Some (unwrap_or o next) ≡ position (bytes_eq name) names
+        by : (o : Option ℕ) → or_later next o (position (bytes_eq name) (name ∷ left)) ≡ position (bytes_eq name) names
+            → Some (unwrap_or o next) ≡ position (bytes_eq name) names
         by (Some n) h = h
         by None h = ap (λ m. Some m) (let e : next ≡ next + 0 = omega arith in e) ∙ ap (or_later next None) (sym here) ∙ h
 
@@ -139,7 +145,8 @@ module _ (setup : StatedSetup) where
         count = omega (arith, longer, so.count);
         settled =
             one_settled setup done k name (modules_of left)
-            (let number = next_number (module_names setup) given (1 + length done) name (modules_of left) so.numbers in rw (home, number, load, register, link) refl)
+            (let number = next_number (module_names setup) given (1 + length done) name (modules_of left) so.numbers
+            in rw (home, number, load, register, link) refl)
             ∙ so.settled;
         numbers = rw longer (next_numbers (module_names setup) given (1 + length done) name (modules_of left) so.numbers k.home after home set);
       }
@@ -163,7 +170,8 @@ module _ (s : StatedSetup) (settled : List Settled) (are : AreSettled s settled)
     pub settled_home : Some k.home ≡ module_of s class
     settled_home = by (module_name_of s class) (ap (option_map settled_view) (sym at) ∙ settled_at)
       where
-        by : (o : Option (List ℕ)) → Some (settled_view k) ≡ option_map (settled_for s) o → Some k.home ≡ option_and_then (λ name. position (bytes_eq name) (module_names s)) o
+        by : (o : Option (List ℕ)) → Some (settled_view k) ≡ option_map (settled_for s) o
+            → Some k.home ≡ option_and_then (λ name. position (bytes_eq name) (module_names s)) o
         by None h = absurd (let no : ⊥ = cc in no)
         by (Some name) h = let e : settled_view k ≡ settled_for s name = cc in ap (λ p. p.home) e
 

@@ -28,7 +28,8 @@ pub record HasFew (c : Class) : Type 0 where
   pub fields : length c.fields.keys ≤ 100
   pub natives : length c.natives.keys ≤ 100
 
-few_in : (es : List (String Global × Class)) → list_any has_many_kept (map (λ e. e.1) es) ≡ false → (i : ℕ) (e : String Global × Class) → slice_get es i ≡ Some e → HasFew e.1
+few_in : (es : List (String Global × Class)) → list_any has_many_kept (map (λ e. e.1) es) ≡ false → (i : ℕ) (e : String Global × Class)
+    → slice_get es i ≡ Some e → HasFew e.1
 few_in [] none i e at = absurd (let no : ⊥ = cc in no)
 few_in (x ∷ es) none zero e at =
     let is : x ≡ e = cc in

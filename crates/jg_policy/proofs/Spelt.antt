@@ -40,7 +40,8 @@ module _ {A : Type 0} (rule : Data → List SetupFault) (f : Data → A) (spelt 
   each_spelt : (ds : Items) → each_of rule ds ≡ [] → list_all spelt (each_item f ds) ≡ true
   each_spelt no_items h = refl
   each_spelt (item d ds) h =
-      and_from (spelt (f d)) (list_all spelt (each_item f ds)) (good d (no_first (rule d) (each_of rule ds) h)) (each_spelt ds (no_second (rule d) (each_of rule ds) h))
+      and_from (spelt (f d)) (list_all spelt (each_item f ds)) (good d (no_first (rule d) (each_of rule ds) h))
+      (each_spelt ds (no_second (rule d) (each_of rule ds) h))
 
   array_spelt : (o : Option Data) → optional (array_faults rule) o ≡ [] → list_all spelt (each_item f (items_at o)) ≡ true
   array_spelt None h = refl
@@ -62,7 +63,8 @@ module _ {A : Type 0} (rule : Members → List SetupFault) (f : Members → A) (
 member_table_spelt : (spelling : Spelling) (ms : Members) → member_table_faults spelling ms ≡ [] → is_member_spelt spelling (member_stated_in ms) ≡ true
 member_table_spelt spelling ms h =
     let rest = no_second (fault_if (has_unknown_key member_keys ms) UnknownKey) _ h in
-    and_from _ _ (required_spelt MemberName (get_member (codes "name") ms) (no_first _ _ rest)) (required_spelt spelling (get_member (codes "type") ms) (no_second _ _ rest))
+    and_from _ _ (required_spelt MemberName (get_member (codes "name") ms) (no_first _ _ rest))
+    (required_spelt spelling (get_member (codes "type") ms) (no_second _ _ rest))
 
 member_spelt : (spelling : Spelling) (d : Data) → member_faults spelling d ≡ [] → is_member_spelt spelling (member_stated d) ≡ true
 member_spelt spelling = table_spelt (member_table_faults spelling) member_stated_in (is_member_spelt spelling) (member_table_spelt spelling)

@@ -35,7 +35,8 @@ kept_more show f kept a vs i v below is seen stated =
     rw (each_item-more f vs i v below, map-append show kept (a ∷ []), ← is, ← seen, ← stated) refl
 
 -- a text among the items, by their bytes
-pub listed : (text : List ℕ) (vs : List Value) → list_any (bytes_eq text) (each_item text_item (items_view vs)) ≡ list_any (λ v. bytes_eq text (text_item (view v))) vs
+pub listed : (text : List ℕ) (vs : List Value)
+    → list_any (bytes_eq text) (each_item text_item (items_view vs)) ≡ list_any (λ v. bytes_eq text (text_item (view v))) vs
 listed text [] = refl
 listed text (v ∷ vs) = ap (λ b. bytes_eq text (text_item (view v)) || b) (listed text vs)
 

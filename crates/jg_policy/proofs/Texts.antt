@@ -15,7 +15,8 @@ use Rattle.jg_policy.proofs.Backs.{setup_back}
 use Rattle.jg_policy.proofs.Clean.{tree_clean}
 
 -- a text that reads as the tree of a setup states the setup
-pub stated_back : (s : StatedSetup) (gs : List Grant) (es : List (String Global × Class)) → map grant_view gs ≡ s.grants → map class_view es ≡ s.classes → AreFit gs es
+pub stated_back : (s : StatedSetup) (gs : List Grant) (es : List (String Global × Class)) → map grant_view gs ≡ s.grants → map class_view es ≡ s.classes
+    → AreFit gs es
     → (text : List ℕ) → parse_document text ≡ Some (setup_tree s) → States text s
 stated_back s gs es grants classes fit text is = (
   setup_tree s,

@@ -26,7 +26,8 @@ chosen true x g f same le xs rest =
     let below : rank x ≤ rank g = grind (arith, nat_tests) in
     rw (← is) (record {
       among = Contains-append_left (x ∷ []) xs x (Contains-push [] x);
-      first = All-cons (λ other. rank x ≤ rank other) x xs (omega arith) (All-weaker (λ other. rank g ≤ rank other) (λ other. rank x ≤ rank other) (λ y h. omega arith) xs rest.first);
+      first = All-cons (λ other. rank x ≤ rank other) x xs (omega arith)
+          (All-weaker (λ other. rank g ≤ rank other) (λ other. rank x ≤ rank other) (λ y h. omega arith) xs rest.first);
     })
 chosen false x g f same le xs rest =
     let is : g ≡ f = cc in
@@ -60,7 +61,8 @@ pub first_found : (xs : List SetupFault) (f : SetupFault) → first_of xs ≡ So
 first_found [] f h = absurd (let no : ⊥ = cc in no)
 first_found (x ∷ xs) f h = step (first_of xs) refl h (first_found xs)
   where
-    step : (o : Option SetupFault) → first_of xs ≡ o → earlier (Some x) o ≡ Some f → ((g : SetupFault) → first_of xs ≡ Some g → IsFirstFault xs g) → IsFirstFault (x ∷ xs) f
+    step : (o : Option SetupFault) → first_of xs ≡ o → earlier (Some x) o ≡ Some f → ((g : SetupFault) → first_of xs ≡ Some g → IsFirstFault xs g)
+        → IsFirstFault (x ∷ xs) f
     step None e same rest = alone x f xs same (none_found xs e)
     step (Some g) e same rest = chosen (nat_le (rank x) (rank g)) x g f same refl xs (rest g e)
 
@@ -114,8 +116,10 @@ early_member : (spelling : Spelling) (d : Data) → are_early (member_faults spe
 early_member spelling d =
     early_type (member_table_faults spelling)
     (λ ms.
-    let name : are_early (required (text_faults MemberName) (get_member (codes "name") ms)) ≡ true = early_required (text_faults MemberName) (early_text MemberName) (get_member (codes "name") ms) in
-    let signature : are_early (required (text_faults spelling) (get_member (codes "type") ms)) ≡ true = early_required (text_faults spelling) (early_text spelling) (get_member (codes "type") ms) in
+    let name : are_early (required (text_faults MemberName) (get_member (codes "name") ms)) ≡ true =
+    early_required (text_faults MemberName) (early_text MemberName) (get_member (codes "name") ms) in
+    let signature : are_early (required (text_faults spelling) (get_member (codes "type") ms)) ≡ true =
+    early_required (text_faults spelling) (early_text spelling) (get_member (codes "type") ms) in
     let unknown : are_early (fault_if (has_unknown_key member_keys ms) UnknownKey) ≡ true = early_if (has_unknown_key member_keys ms) UnknownKey refl in
     simp (list_all-append) (rw (unknown, name, signature)))
     (as_table d)
@@ -123,14 +127,17 @@ early_member spelling d =
 early_class_table : (ms : Members) → are_early (class_table_faults ms) ≡ true
 early_class_table ms =
     let unknown : are_early (fault_if (has_unknown_key class_keys ms) UnknownKey) ≡ true = early_if (has_unknown_key class_keys ms) UnknownKey refl in
-    let name : are_early (required (text_faults ClassName) (get_member (codes "name") ms)) ≡ true = early_required (text_faults ClassName) (early_text ClassName) (get_member (codes "name") ms) in
+    let name : are_early (required (text_faults ClassName) (get_member (codes "name") ms)) ≡ true =
+    early_required (text_faults ClassName) (early_text ClassName) (get_member (codes "name") ms) in
     let module_name : are_early (required (text_faults ModuleName) (get_member (codes "module") ms)) ≡ true =
     early_required (text_faults ModuleName) (early_text ModuleName) (get_member (codes "module") ms) in
-    let throwable : are_early (optional truth_faults (get_member (codes "throwable") ms)) ≡ true = early_optional truth_faults early_truth (get_member (codes "throwable") ms) in
+    let throwable : are_early (optional truth_faults (get_member (codes "throwable") ms)) ≡ true =
+    early_optional truth_faults early_truth (get_member (codes "throwable") ms) in
     let fields : are_early (optional (array_faults (member_faults FieldType)) (get_member (codes "fields") ms)) ≡ true =
     early_optional (array_faults (member_faults FieldType)) (early_array (member_faults FieldType) (early_member FieldType)) (get_member (codes "fields") ms) in
     let natives : are_early (optional (array_faults (member_faults NativeType)) (get_member (codes "natives") ms)) ≡ true =
-    early_optional (array_faults (member_faults NativeType)) (early_array (member_faults NativeType) (early_member NativeType)) (get_member (codes "natives") ms) in
+    early_optional (array_faults (member_faults NativeType)) (early_array (member_faults NativeType) (early_member NativeType))
+    (get_member (codes "natives") ms) in
     simp (list_all-append) (rw (unknown, name, module_name, throwable, fields, natives))
 
 early_class : (d : Data) → are_early (class_faults d) ≡ true
@@ -159,13 +166,16 @@ early_granting : (ms : Members) → are_early (granting_faults ms) ≡ true
 early_granting ms =
     early_either (is_version_2 ms) _ _
     (early_optional (array_faults grant_faults) (early_array grant_faults early_grant) (get_member (codes "grant") ms))
-    (early_optional (array_faults (text_faults ModuleName)) (early_array (text_faults ModuleName) (early_text ModuleName)) (get_member (codes "enable_native_access") ms))
+    (early_optional (array_faults (text_faults ModuleName)) (early_array (text_faults ModuleName) (early_text ModuleName))
+    (get_member (codes "enable_native_access") ms))
 
 early_shape : (ms : Members) → are_early (shape_faults ms) ≡ true
 early_shape ms =
     let unknown : are_early (fault_if (has_unknown_setup_key ms) UnknownKey) ≡ true = early_if (has_unknown_setup_key ms) UnknownKey refl in
-    let version : are_early (required version_faults (get_member (codes "version") ms)) ≡ true = early_required version_faults early_version (get_member (codes "version") ms) in
-    let mode : are_early (required mode_faults (get_member (codes "illegal_native_access") ms)) ≡ true = early_required mode_faults early_mode (get_member (codes "illegal_native_access") ms) in
+    let version : are_early (required version_faults (get_member (codes "version") ms)) ≡ true =
+    early_required version_faults early_version (get_member (codes "version") ms) in
+    let mode : are_early (required mode_faults (get_member (codes "illegal_native_access") ms)) ≡ true =
+    early_required mode_faults early_mode (get_member (codes "illegal_native_access") ms) in
     let classes : are_early (optional (array_faults class_faults) (get_member (codes "class") ms)) ≡ true =
     early_optional (array_faults class_faults) (early_array class_faults early_class) (get_member (codes "class") ms) in
     both (setup_heading_faults ms) (setup_lists_faults ms)
@@ -189,7 +199,8 @@ repeat_first : (b : Bool) → first_of (Duplicate ∷ fault_if b TooMany) ≡ So
 repeat_first true = refl
 repeat_first false = refl
 
-pub repeat_answers : (ms : Members) → first_of (shape_faults ms) ≡ None → states_twice (setup_stated ms).classes ≡ true → first_of (tree_faults ms) ≡ Some Duplicate
+pub repeat_answers : (ms : Members) → first_of (shape_faults ms) ≡ None → states_twice (setup_stated ms).classes ≡ true
+    → first_of (tree_faults ms) ≡ Some Duplicate
 repeat_answers ms none twice = first_of-append (shape_faults ms) _ ∙ rw (none, twice) (repeat_first (is_too_large (setup_stated ms)))
 
 pub size_answers : (ms : Members) → first_of (shape_faults ms) ≡ None → states_twice (setup_stated ms).classes ≡ false → is_too_large (setup_stated ms) ≡ true

@@ -8,7 +8,7 @@ pub mod Put
 pub mod Written
 pub mod Kept
 pub mod Classes
-pub mod Access
+pub mod NativeAccess
 pub mod Settling
 pub mod Links
 pub mod LinkRows

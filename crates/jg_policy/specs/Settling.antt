@@ -11,7 +11,7 @@ use Rattle.jg_policy.specs.declared.grant.Grant.{Grant}
 use Rattle.jg_policy.specs.declared.setup.settling.Settled.{Settled}
 use Rattle.jg_policy.specs.Stated.{StatedSetup}
 use Rattle.jg_policy.specs.Classes.{module_names}
-use Rattle.jg_policy.specs.Access.{module_access}
+use Rattle.jg_policy.specs.NativeAccess.{module_access}
 use Rattle.jg_policy.specs.Kept.{grant_view, class_view}
 
 -- the setup that its parts stand for

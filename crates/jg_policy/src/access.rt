@@ -1,6 +1,6 @@
 //! Native access (JEP 472).
 ghost use Rattle.std.specs.Prelude.{◌≡◌};
-ghost use Rattle.jg_policy.specs.Access.{access_by};
+ghost use Rattle.jg_policy.specs.NativeAccess.{access_by};
 
 use crate::mode::Mode;
 

@@ -3,7 +3,7 @@ ghost use Rattle.std.specs.Prelude.{◌≡◌, map, IfOk};
 ghost use Rattle.std.specs.List.{list_any};
 ghost use Rattle.std.specs.Str.{bytes_eq};
 ghost use Rattle.toml.specs.View.{view, table_view, items_view};
-ghost use Rattle.jg_policy.specs.Access.{allows};
+ghost use Rattle.jg_policy.specs.NativeAccess.{allows};
 ghost use Rattle.jg_policy.specs.Stated.{each_item, text_item, enabled_stated, grant_stated, grant_stated_in, grants_stated};
 ghost use Rattle.jg_policy.specs.Kept.{grant_view};
 

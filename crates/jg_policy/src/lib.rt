@@ -6,7 +6,7 @@ mod access;
 mod base;
 mod class;
 mod fault;
-mod findings;
+mod first_fault;
 mod grant;
 mod limits;
 mod links;

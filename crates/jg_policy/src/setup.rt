@@ -11,7 +11,7 @@ mod settling;
 
 use crate::class::{Class, classes_from};
 use crate::fault::SetupFault;
-use crate::findings::shape_fault;
+use crate::first_fault::shape_fault;
 use crate::grant::{Grant, grants_of};
 use crate::limits::{is_too_large, states_twice};
 use crate::mode::Mode;

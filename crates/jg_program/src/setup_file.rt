@@ -116,7 +116,7 @@ pub fn read_setup<F: Read>(
     }
 }
 
-/// The setup of the file that is given, of which the system told the length, or the closed one where none is; or how the
+/// The setup of the given file, of which the system told the length, or the closed one where none is given; or how the
 /// program ends without it. The file is closed then.
 pub fn setup_of<F: Read + Drop>(
     alloc: Global,

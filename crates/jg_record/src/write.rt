@@ -7,10 +7,10 @@ ghost use Rattle.jg_record.specs.declared.unwritten.Unwritten.TheVariants.{NoMem
 ghost use Rattle.jg_record.specs.Writing as writing;
 ghost use Rattle.jg_record.specs.Writing.{AppendsText, IsUnwritten, IsWritten};
 
-use crate::ask::{push_question, suits_row};
 use crate::event::{Event, Lists};
-use crate::spell::{is_told, push_bounds, push_fact, push_gone, teller_of};
 use crate::unwritten::Unwritten;
+use crate::write_fact::{is_told, push_bounds, push_fact, push_gone, teller_of};
+use crate::write_question::{push_question, suits_row};
 use jg_policy::Setup;
 use jg_text::{MAX_LINE, push_tid};
 use jg_words::Tid;

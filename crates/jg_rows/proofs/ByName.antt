@@ -17,7 +17,8 @@ each_from q a (suc n) all place from to =
     ] refl
 
 -- tables that pass the test for each place are by name
-pub by_name : (shifts places : List ℕ) → list_all (λ place. slice_index places (slot_of shifts (name_number 0 (name_at place))) == place) (range_with_len 0 243) ≡ true → IsByName shifts places
+pub by_name : (shifts places : List ℕ) → list_all (λ place. slice_index places (slot_of shifts (name_number 0 (name_at place))) == place) (range_with_len 0 243)
+    ≡ true → IsByName shifts places
 by_name shifts places all = record {
   stands = λ place below. eqb-true (slice_index places (slot_of shifts (name_number 0 (name_at place)))) place
       (each_from (λ q. slice_index places (slot_of shifts (name_number 0 (name_at q))) == q) 0 243 all place (omega arith) below);

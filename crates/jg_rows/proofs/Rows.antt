@@ -8,7 +8,8 @@ use Rattle.jg_rows.specs.declared.row.Row.{Row}
 use Rattle.jg_rows.specs.Columns.{Columns, IsRowAt, columns}
 use Rattle.jg_rows.specs.Table.{functions, first, fields, virtual_calls, nonvirtual_calls, static_fields, static_calls, strings, arrays, last}
 
-pub seen_at : (rows : List Row) (all : List Columns) (place : ℕ) (row : Option Row) → IsRowAt rows place row → map columns rows ≡ all → option_map columns row ≡ slice_get all place
+pub seen_at : (rows : List Row) (all : List Columns) (place : ℕ) (row : Option Row) → IsRowAt rows place row → map columns rows ≡ all
+    → option_map columns row ≡ slice_get all place
 seen_at rows all place row at seen = ap (option_map columns) at.is ∙ (sym (slice_get-map columns rows place) ∙ ap (λ l. slice_get l place) seen)
 
 slice_get-after : {X : Type 0} (xs ys : List X) (i : ℕ) → length xs ≤ i → slice_get (xs ++ ys) i ≡ slice_get ys (i - length xs)
@@ -19,7 +20,8 @@ slice_get-after (x ∷ xs) ys (suc i) past =
     slice_get-after xs ys i (omega (arith, past)) ∙ ap (slice_get ys) same
 
 -- of places that count from a, those before b are in the first list, and those from b in the second
-in_first : {X : Type 0} (xs ys : List X) (a b place : ℕ) → a + length xs ≡ b → a ≤ place → place < b → slice_get (xs ++ ys) (place - a) ≡ slice_get xs (place - a)
+in_first : {X : Type 0} (xs ys : List X) (a b place : ℕ) → a + length xs ≡ b → a ≤ place → place < b
+    → slice_get (xs ++ ys) (place - a) ≡ slice_get xs (place - a)
 in_first xs ys a b place many from to = slice_get-before xs ys (place - a) (omega (arith, many, from, to))
 
 in_second : {X : Type 0} (xs ys : List X) (a b place : ℕ) → a + length xs ≡ b → b ≤ place → slice_get (xs ++ ys) (place - a) ≡ slice_get ys (place - b)

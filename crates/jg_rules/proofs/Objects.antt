@@ -28,8 +28,10 @@ use Rattle.jg_rules.specs.Rules.{is_nothing, is_null, is_wrong}
 abbrev class_told : Rows → ℕ → ℕ
 class_told rows o = if nat_lt o (count_in rows) && not (gone_in rows o) then class_at rows o else 1
 
-told_if : (b : Bool) (rows : Rows) (e : List Event) (o : ℕ) → nat_lt o (count_of rows.classes e) ≡ b → RowsTell rows e → class_there rows.classes e o ≡ class_told rows o
-told_if true rows e o is told = let made : o < count_of rows.classes e = grind (arith, nat_tests, is) in rw (told.count, told.class o made, told.gone o made) refl
+told_if : (b : Bool) (rows : Rows) (e : List Event) (o : ℕ) → nat_lt o (count_of rows.classes e) ≡ b → RowsTell rows e
+    → class_there rows.classes e o ≡ class_told rows o
+told_if true rows e o is told = let made : o < count_of rows.classes e = grind (arith, nat_tests, is)
+    in rw (told.count, told.class o made, told.gone o made) refl
 told_if false rows e o is told = rw (told.count, is) refl
 
 -- wherever the store stands, it tells of this class
@@ -39,7 +41,8 @@ class_by_rows rows k e o tells =
 
 -- wherever the tables stand, it is the same
 pub same_class : (s : StatedSetup) (rows : TableRows) (p q : Parts) (o : ℕ) → TablesStand s rows p → TablesStand s rows q → class_of s p o ≡ class_of s q o
-same_class s rows p q o one other = class_by_rows rows.heap (class_count s) p.heap o one.heap ∙ sym (class_by_rows rows.heap (class_count s) q.heap o other.heap)
+same_class s rows p q o one other = class_by_rows rows.heap (class_count s) p.heap o one.heap
+    ∙ sym (class_by_rows rows.heap (class_count s) q.heap o other.heap)
 
 -- an object that was made of this class, and isn't gone
 pub record IsMade (s : StatedSetup) (p : Parts) (o kind : ℕ) : Type 0 where
@@ -47,7 +50,8 @@ pub record IsMade (s : StatedSetup) (p : Parts) (o kind : ℕ) : Type 0 where
   pub here : gone_at (class_count s) p.heap o ≡ false
   pub class : class_in (making_at (class_count s) p.heap o) ≡ kind
 
-made_if : (made gone : Bool) (s : StatedSetup) (p : Parts) (o kind : ℕ) → nat_lt o (count_of (class_count s) p.heap) ≡ made → gone_at (class_count s) p.heap o ≡ gone
+made_if : (made gone : Bool) (s : StatedSetup) (p : Parts) (o kind : ℕ) → nat_lt o (count_of (class_count s) p.heap) ≡ made
+    → gone_at (class_count s) p.heap o ≡ gone
     → (if made && not gone then class_in (making_at (class_count s) p.heap o) else 1) ≡ kind → 2 ≤ kind → IsMade s p o kind
 made_if true false s p o kind is stays class other = record { made = grind (arith, nat_tests, is); here = stays; class = class }
 made_if true true s p o kind is gone class other = absurd (omega (arith, class, other))
@@ -76,7 +80,8 @@ as_made s rows p o stand made =
     }
 
 -- and each of a class other than java/lang/Class
-pub is_there : (s : StatedSetup) (rows : TableRows) (p : Parts) (o class : ℕ) → TablesStand s rows p → class_of s p o ≡ class → 2 ≤ class → IsThere s rows p o class
+pub is_there : (s : StatedSetup) (rows : TableRows) (p : Parts) (o class : ℕ) → TablesStand s rows p → class_of s p o ≡ class → 2 ≤ class
+    → IsThere s rows p o class
 is_there s rows p o class stand is other =
     let made = made_so s p o class is other in
     subst (λ (kind : ℕ). IsThere s rows p o kind) made.class (as_made s rows p o stand made.made)
@@ -91,7 +96,8 @@ right_if true c is = refl
 right_if false c is = absurd cc
 
 -- the first operand that must name an object names one of its type, where the call breaks no rule
-pub first_is_of : (s : StatedSetup) (p : Parts) (type : ObjectType) (named : Named) (a b c : Bool) → (is_nothing named || a) ≡ false → ((true && is_null named) || b) ≡ false
+pub first_is_of : (s : StatedSetup) (p : Parts) (type : ObjectType) (named : Named) (a b c : Bool) → (is_nothing named || a) ≡ false
+    → ((true && is_null named) || b) ≡ false
     → (is_wrong s p type named || c) ≡ false → is_of s p type (unwrap_or (object_in named) 0) ≡ true
 first_is_of s p type Nothing a b c alive there right = absurd cc
 first_is_of s p type NamesNull a b c alive there right = absurd cc
@@ -106,8 +112,10 @@ numbers (x ∷ xs) = ap (λ ys. x ∷ ys) (numbers xs)
 -- the items of an array, as the store lends them
 pub items_are : (s : StatedSetup) (rows : TableRows) (p : Parts) (o : ℕ) (xs : List ℤ) → TablesStand s rows p
     → map Number xs ≡ map (value_at rows.heap.classes p.heap o) (range_with_len 0 (length_in (making_at rows.heap.classes p.heap o))) → items_of s p o ≡ xs
-items_are s rows p o xs stand is = ap (λ k. map number_in (map (value_at k p.heap o) (range_with_len 0 (length_in (making_at k p.heap o))))) (sym stand.heap.classes)
+items_are s rows p o xs stand is =
+    ap (λ k. map number_in (map (value_at k p.heap o) (range_with_len 0 (length_in (making_at k p.heap o))))) (sym stand.heap.classes)
     ∙ (ap (λ (ys : List Slot). map number_in ys) (sym is) ∙ numbers xs)
 
 pub items_of-length : (s : StatedSetup) (p : Parts) (o : ℕ) → length (items_of s p o) ≡ length_of s p o
-items_of-length s p o = length-map (map (slot_of s p o) (range_with_len 0 (length_of s p o))) number_in ∙ length-map-range_with_len (slot_of s p o) 0 (length_of s p o)
+items_of-length s p o = length-map (map (slot_of s p o) (range_with_len 0 (length_of s p o))) number_in
+    ∙ length-map-range_with_len (slot_of s p o) 0 (length_of s p o)

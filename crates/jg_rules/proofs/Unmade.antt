@@ -18,7 +18,8 @@ making_at-unmade k (Collected roots ∷ e) o past = making_at-unmade k e o past
 making_at-unmade k (Went p ∷ e) o past = making_at-unmade k e o past
 
 -- so it does where the tables stand and the store has no such object
-pub making_at-past : (setup : StatedSetup) (rows : TableRows) (p : Parts) (o len : ℕ) → TablesStand setup rows p → len ≡ count_of rows.heap.classes p.heap → len ≤ o
+pub making_at-past : (setup : StatedSetup) (rows : TableRows) (p : Parts) (o len : ℕ) → TablesStand setup rows p → len ≡ count_of rows.heap.classes p.heap
+    → len ≤ o
     → making_at (class_count setup) p.heap o ≡ Plain 1 []
 making_at-past setup rows p o len stands is past =
     ap (λ k. making_at k p.heap o) (sym stands.heap.classes) ∙ making_at-unmade rows.heap.classes p.heap o (omega (arith, is, past))

@@ -49,7 +49,7 @@ use Rattle.jg_rules.specs.declared.named.Named.TheVariants.{Nothing}
 use Rattle.jg_rules.specs.Parts.{Parts}
 use Rattle.jg_policy.specs.declared.access.Operation.{Operation}
 use Rattle.jg_policy.specs.declared.access.Operation.TheVariants.{Load, Register, Link}
-use Rattle.jg_rules.specs.Access.{warns}
+use Rattle.jg_rules.specs.NativeUse.{warns}
 use Rattle.jg_rules.specs.Effects.{passed_on}
 use Rattle.jg_rules.specs.Holding.{going}
 use Rattle.jg_rules.specs.Buffers.{buffer_named, item_read}

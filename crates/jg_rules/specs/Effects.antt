@@ -53,7 +53,7 @@ use Rattle.jg_table_heap.specs.declared.object.Slot.{Slot}
 use Rattle.jg_table_heap.specs.declared.object.Slot.TheVariants.{Number, Object as Pointer}
 use Rattle.jg_rules.specs.Names.{the_object, object_named, class_meant, native_meant, slot_place, next_buffer, length_of, units_of, items_of}
 use Rattle.jg_rules.specs.Parts.{Parts, nothing_yet}
-use Rattle.jg_rules.specs.Access.{native_class, home_of}
+use Rattle.jg_rules.specs.NativeUse.{native_class, home_of}
 use Rattle.jg_rules.specs.Holding.{roots, going}
 use Rattle.jg_rules.specs.Buffers.{buffer_named, is_commit, writes_back}
 

@@ -2,7 +2,7 @@ pub mod Numbers
 pub mod Parts
 pub mod Names
 pub mod Buffers
-pub mod Access
+pub mod NativeUse
 pub mod Operands
 pub mod Effects
 pub mod Holding

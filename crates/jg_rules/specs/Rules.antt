@@ -48,8 +48,8 @@ use Rattle.std.specs.Option.{is_some, is_none}
 use Rattle.std.specs.Str.{bytes_eq}
 use Rattle.jg_table_buffers.specs.History as buffers
 use Rattle.jg_table_monitors.specs.History as monitors
-use Rattle.jg_rules.specs.Access.{native_class, native_use, refuses}
-use Rattle.jg_words.specs.Passing.{passes_critical, passes_pending}
+use Rattle.jg_rules.specs.NativeUse.{native_class, native_use, refuses}
+use Rattle.jg_words.specs.MayCall.{passes_critical, passes_pending}
 use Rattle.jg_words.specs.declared.object.ItemType.TheVariants.{Of}
 use Rattle.jg_rules.specs.Names.{names, session, depth, open_frames, pending, class_of, native_meant, object_named}
 use Rattle.jg_rules.specs.Operands.{operands, is_of}

@@ -4,7 +4,7 @@
 ghost use Rattle.std.specs.Prelude.{◌≡◌, ◌<◌, IfSome};
 ghost use Rattle.jg_policy.specs.Stated.{class_count};
 ghost use Rattle.jg_rules.specs.Parts.{Parts};
-ghost use Rattle.jg_rules.specs.Access.{native_class, vm_class, home_of, refuses, unwarned, warns};
+ghost use Rattle.jg_rules.specs.NativeUse.{native_class, vm_class, home_of, refuses, unwarned, warns};
 ghost use Rattle.jg_rules.specs.View.{ViewTells};
 
 use crate::named::class_meant;

@@ -44,7 +44,8 @@ Ones = Struct (record { name = []; args = []; types = []; fields = RawPtr ∷ []
 
 module _ {M : Type 1} {𝓤 : Ura M} {𝓛 : Logic 𝓤} {K : Type 0} {Γ : List (Item 𝓤)} {G : Goal 𝓤 𝓛.H} where
   pub one_in : K → (p : Ptr) → Step K 𝓛 (‵ (Ones.own_val (p, tt) (one p ∷ [])) ∷ Γ) G Γ G
-  one_in t p = step (λ s. nothing t $ feq_i t (List Val) (ptr_val p ∷ []) (ptr_val p ∷ []) refl $ fjoin t $ feq_i t (List Val) (one p ∷ []) (one p ∷ []) refl $ fjoin t $
+  one_in t p = step (λ s. nothing t $ feq_i t (List Val) (ptr_val p ∷ []) (ptr_val p ∷ []) refl $ fjoin t $ feq_i t (List Val) (one p ∷ [])
+      (one p ∷ []) refl $ fjoin t $
       fpack t (Valss (RawPtr ∷ [])) (within (record { name = []; args = []; types = []; fields = RawPtr ∷ [] }) (p, tt) (one p ∷ [])) (ptr_val p ∷ [], tt) $ s)
 
   pub one_out : K → (p : Ptr) (vs : List Val) → (vs ≡ one p ∷ [] → Seq K 𝓛 Γ G) → Seq K 𝓛 (‵ (Ones.own_val (p, tt) vs) ∷ Γ) G
@@ -54,14 +55,17 @@ module _ {M : Type 1} {𝓤 : Ura M} {𝓛 : Logic 𝓤} {K : Type 0} {Γ : List
 module _ {M : Type 1} {𝓤 : Ura M} (𝓛 : Logic 𝓤) (R : RattleType) where
   tested : (p : Ptr) (x : R.Denot) → ent 𝓤 (sem 𝓛 (box_owns to_free R p x)) (guard 𝓤 (Testable p) (sem 𝓛 (box_owns to_free R p x)))
   tested p x = let B : SProp 𝓤 = sem 𝓛 (box_owns to_free R p x) in
-      fact_use 𝓤 (Testable p) (via 𝓤 _ (snd∗ 𝓤 (sem 𝓛 (lies_at R full_share p x)) (sem 𝓛 (to_free (bare (lone R.mir)) p))) (dealloc_token-Testable 𝓛 the_heap (bare (lone R.mir)) p)) (guard_i 𝓤 (Testable p) B)
+      fact_use 𝓤 (Testable p) (via 𝓤 _ (snd∗ 𝓤 (sem 𝓛 (lies_at R full_share p x)) (sem 𝓛 (to_free (bare (lone R.mir)) p)))
+      (dealloc_token-Testable 𝓛 the_heap (bare (lone R.mir)) p)) (guard_i 𝓤 (Testable p) B)
 
 module _ (R : RattleType) {M : Type 1} {𝓤 : Ura M} {𝓛 : Logic 𝓤} {K : Type 0} {Γ : List (Item 𝓤)} {G : Goal 𝓤 𝓛.H} where
   pub either_held : K → (p : Ptr) (v : Option R.Denot) → (p ≡ null_ptr → v ≡ None → Seq K 𝓛 Γ G)
-      → ((b o : ℕ) (x : R.Denot) → p ≡ block_ptr b o → v ≡ Some x → Testable (block_ptr b o) → Seq K 𝓛 (‵ (box_owns to_free R (block_ptr b o) x) ∷ Γ) G) → Seq K 𝓛 (‵ (held R p v) ∷ Γ) G
+      → ((b o : ℕ) (x : R.Denot) → p ≡ block_ptr b o → v ≡ Some x → Testable (block_ptr b o) → Seq K 𝓛 (‵ (box_owns to_free R (block_ptr b o) x) ∷ Γ) G)
+      → Seq K 𝓛 (‵ (held R p v) ∷ Γ) G
   either_held t p None none some = feq_l t (λ e. none e refl)
   either_held t p (Some x) none some = in_a_block t p (λ p. box_owns to_free R p x) (fst∗ 𝓤 (never 𝓤) (sem 𝓛 (to_free (bare (lone R.mir)) null_ptr))) (λ b o e.
-      use1 𝓛 (given (Testable (block_ptr b o)) (‵ (box_owns to_free R (block_ptr b o) x))) (tested 𝓛 R (block_ptr b o) x) $ learn t (λ may. some b o x e refl may))
+      use1 𝓛 (given (Testable (block_ptr b o)) (‵ (box_owns to_free R (block_ptr b o) x))) (tested 𝓛 R (block_ptr b o) x) $ learn t
+      (λ may. some b o x e refl may))
 
 pub held_keyless : (R : RattleType) → IsSend R → (p : Ptr) (v : Option R.Denot) → Keyless (held R p v)
 held_keyless R s p None = tt

@@ -21,7 +21,8 @@ use Rattle.jg_table_buffers.proofs.Maps.{at_key, counted_popped}
 
 -- equal counts count the same
 pub counts_same : {T : Type 0} (pins : List (Name × Pinned)) (makers makers' : List ℕ) (vias vias' : IndexMap (ℕ × ℕ × ℕ) ℕ T) → Counted pins makers vias
-    → ((q : ℕ) → slice_index_or makers' q 0 ≡ slice_index_or makers q 0) → ((q : ℕ × ℕ × ℕ) → count_at (get same_triple vias' q) ≡ count_at (get same_triple vias q))
+    → ((q : ℕ) → slice_index_or makers' q 0 ≡ slice_index_or makers q 0)
+    → ((q : ℕ × ℕ × ℕ) → count_at (get same_triple vias' q) ≡ count_at (get same_triple vias q))
     → Counted pins makers' vias'
 counts_same pins makers makers' vias vias' was same alike = record {
   by_maker = λ t. same t ∙ was.by_maker t;
@@ -65,32 +66,39 @@ counted_more p pins news q w adds =
     ap (how_many p) adds.now ∙ how_many-between p adds.front (q, w) adds.back ∙ ap (λ es. if p (q, w) then how_many p es + 1 else how_many p es) (sym adds.was)
 
 -- one more pinned buffer
-pub counts_raised : {T : Type 0} (pins news : List (Name × Pinned)) (makers makers' : List ℕ) (vias vias' : IndexMap (ℕ × ℕ × ℕ) ℕ T) (t n : ℕ) (w : Pinned) → Counted pins makers vias
+pub counts_raised : {T : Type 0} (pins news : List (Name × Pinned)) (makers makers' : List ℕ) (vias vias' : IndexMap (ℕ × ℕ × ℕ) ℕ T) (t n : ℕ) (w : Pinned)
+    → Counted pins makers vias
     → Adds (t, n) w pins news
     → ((q : ℕ) → slice_index_or makers' q 0 ≡ (if t == q then slice_index_or makers t 0 + 1 else slice_index_or makers q 0))
-    → ((q : ℕ × ℕ × ℕ) → count_at (get same_triple vias' q) ≡ (if same_triple (key_of w.via) q then count_at (get same_triple vias (key_of w.via)) + 1 else count_at (get same_triple vias q)))
+    → ((q : ℕ × ℕ × ℕ) → count_at (get same_triple vias' q)
+    ≡ (if same_triple (key_of w.via) q then count_at (get same_triple vias (key_of w.via)) + 1 else count_at (get same_triple vias q)))
     → Counted news makers' vias'
 counts_raised pins news makers makers' vias vias' t n w was adds maker via = record {
   by_maker = λ q. maker q ∙ rw (was.by_maker t, was.by_maker q, counted_more (λ e. e.0.0 == q) pins news (t, n) w adds)
-      (raise_by (how_many (λ e. e.0.0 == t) pins) (how_many (λ e. e.0.0 == q) pins) (t == q) (λ is. ap (λ u. how_many (λ e. e.0.0 == u) pins) (eqb-true t q is)));
+      (raise_by (how_many (λ e. e.0.0 == t) pins) (how_many (λ e. e.0.0 == q) pins) (t == q)
+      (λ is. ap (λ u. how_many (λ e. e.0.0 == u) pins) (eqb-true t q is)));
   by_via = λ r. via (key_of r) ∙ rw (at_key w.via r, was.by_via w.via, was.by_via r, counted_more (λ e. same_ref e.1.via r) pins news (t, n) w adds)
       (raise_by (how_many (λ e. same_ref e.1.via w.via) pins) (how_many (λ e. same_ref e.1.via r) pins) (same_ref w.via r)
       (λ is. ap (λ u. how_many (λ e. same_ref e.1.via u) pins) (same_ref_is w.via r is)));
 }
 
 -- one pinned buffer less
-pub counts_lowered : {T : Type 0} (pins news : List (Name × Pinned)) (makers makers' : List ℕ) (vias vias' : IndexMap (ℕ × ℕ × ℕ) ℕ T) (t n : ℕ) (w : Pinned) → Counted pins makers vias
+pub counts_lowered : {T : Type 0} (pins news : List (Name × Pinned)) (makers makers' : List ℕ) (vias vias' : IndexMap (ℕ × ℕ × ℕ) ℕ T) (t n : ℕ) (w : Pinned)
+    → Counted pins makers vias
     → IsPermutation pins (((t, n), w) ∷ news)
     → ((q : ℕ) → slice_index_or makers' q 0 ≡ (if t == q then slice_index_or makers t 0 - 1 else slice_index_or makers q 0))
-    → ((q : ℕ × ℕ × ℕ) → count_at (get same_triple vias' q) ≡ (if same_triple (key_of w.via) q then count_at (get same_triple vias (key_of w.via)) - 1 else count_at (get same_triple vias q)))
+    → ((q : ℕ × ℕ × ℕ) → count_at (get same_triple vias' q)
+    ≡ (if same_triple (key_of w.via) q then count_at (get same_triple vias (key_of w.via)) - 1 else count_at (get same_triple vias q)))
     → Counted news makers' vias'
 counts_lowered pins news makers makers' vias vias' t n w was taken maker via = record {
   by_maker = λ q. maker q ∙ rw (was.by_maker t, was.by_maker q)
-      (lower_by (how_many (λ e. e.0.0 == t) pins) (how_many (λ e. e.0.0 == q) pins) _ (t == q) (λ is. ap (λ u. how_many (λ e. e.0.0 == u) pins) (eqb-true t q is))
+      (lower_by (how_many (λ e. e.0.0 == t) pins) (how_many (λ e. e.0.0 == q) pins) _ (t == q)
+      (λ is. ap (λ u. how_many (λ e. e.0.0 == u) pins) (eqb-true t q is))
       (counted_popped (λ e. e.0.0 == q) ((t, n), w) pins news taken));
   by_via = λ r. via (key_of r) ∙ rw (at_key w.via r, was.by_via w.via, was.by_via r)
       (lower_by (how_many (λ e. same_ref e.1.via w.via) pins) (how_many (λ e. same_ref e.1.via r) pins) _ (same_ref w.via r)
-      (λ is. ap (λ u. how_many (λ e. same_ref e.1.via u) pins) (same_ref_is w.via r is)) (counted_popped (λ e. same_ref e.1.via r) ((t, n), w) pins news taken));
+      (λ is. ap (λ u. how_many (λ e. same_ref e.1.via u) pins) (same_ref_is w.via r is))
+      (counted_popped (λ e. same_ref e.1.via r) ((t, n), w) pins news taken));
 }
 
 -- ---- the count of all
@@ -103,7 +111,8 @@ all_raised pins news q w count was adds =
     omega (arith, was, before, after)
 
 -- one pinned buffer less
-pub all_lowered : (pins news : List (Name × Pinned)) (e : Name × Pinned) (count : ℕ) → count ≡ length pins → IsPermutation pins (e ∷ news) → count ≡ length news + 1
+pub all_lowered : (pins news : List (Name × Pinned)) (e : Name × Pinned) (count : ℕ) → count ≡ length pins → IsPermutation pins (e ∷ news)
+    → count ≡ length news + 1
 all_lowered pins news e count was taken =
     let same = length_permutation pins (e ∷ news) taken in
     omega (arith, was, same)

@@ -40,14 +40,16 @@ pin_names : (es : List ((ℕ × ℕ) × Pinned)) → map name_of (map pin_seen e
 pin_names es = map-map name_of pin_seen es
 
 -- the names of both kinds are those of the rows that the table shows
-pub listed_law : {I : Type 0} (shows : I → List ℤ) (rows : Rows) (copies : List ((ℕ × ℕ) × Copied I)) (pins : List ((ℕ × ℕ) × Pinned)) (old mid new : List BufId)
+pub listed_law : {I : Type 0} (shows : I → List ℤ) (rows : Rows) (copies : List ((ℕ × ℕ) × Copied I)) (pins : List ((ℕ × ℕ) × Pinned))
+    (old mid new : List BufId)
     → record { lent = map (copy_seen shows) copies ++ map pin_seen pins } ≡ rows
     → mid ≡ old ++ map key_name (keys_of copies)
     → new ≡ mid ++ map (λ (e : (ℕ × ℕ) × Pinned). key_name e.0) pins
     → new ≡ old ++ map name_of rows.lent
 listed_law shows rows copies pins old mid new seen first second =
     let P : Rows → Type 0 = λ r. new ≡ old ++ map name_of r.lent in
-    let names : map name_of (map (copy_seen shows) copies ++ map pin_seen pins) ≡ map key_name (keys_of copies) ++ map (λ (e : (ℕ × ℕ) × Pinned). key_name e.0) pins =
+    let names : map name_of (map (copy_seen shows) copies ++ map pin_seen pins)
+    ≡ map key_name (keys_of copies) ++ map (λ (e : (ℕ × ℕ) × Pinned). key_name e.0) pins =
     map-append name_of (map (copy_seen shows) copies) (map pin_seen pins)
     ∙ ap (λ l. l ++ map name_of (map pin_seen pins)) (copy_names shows copies)
     ∙ ap (λ l. map key_name (keys_of copies) ++ l) (pin_names pins) in
@@ -69,7 +71,8 @@ module _ {V R : Type 0} (f : Name → R) (p : Name × V → Bool) where
       sym (map-map (λ (e : Name × V). f e.0) (λ (e : ℕ × V). ((maker, e.0), e.1)) (filter (λ e. p ((maker, e.0), e.1)) es))
       ∙ ap (map (λ (e : Name × V). f e.0)) (map-filter (λ (e : ℕ × V). ((maker, e.0), e.1)) (λ e. p ((maker, e.0), e.1)) p (λ e. refl) es)
 
-  one_more : (tables : List (ℕ × List (ℕ × V))) (maker : ℕ) (es : List (ℕ × V)) → passing (named (tables ++ (maker, es) ∷ [])) ≡ passing (named tables) ++ passing (entries maker es)
+  one_more : (tables : List (ℕ × List (ℕ × V))) (maker : ℕ) (es : List (ℕ × V))
+      → passing (named (tables ++ (maker, es) ∷ [])) ≡ passing (named tables) ++ passing (entries maker es)
   one_more tables maker es =
       ap passing (named-append tables ((maker, es) ∷ []) ∙ ap (λ l. named tables ++ l) (append-nil (entries maker es)))
       ∙ ap (map (λ (e : Name × V). f e.0)) (filter-append p (named tables) (entries maker es))
@@ -89,7 +92,8 @@ module _ {V R : Type 0} (f : Name → R) (p : Name × V → Bool) where
       ∙ ap (λ l. l ++ own) was
       ∙ append_assoc old (passing (named (map seen (take i seats)))) own
       ∙ ap (λ l. old ++ l)
-      (sym (one_more (map seen (take i seats)) (get_or seats i d).number (get_or seats i d).value) ∙ ap (λ (es : List (ℕ × List (ℕ × V))). passing (named es)) (sym more))
+      (sym (one_more (map seen (take i seats)) (get_or seats i d).number (get_or seats i d).value)
+      ∙ ap (λ (es : List (ℕ × List (ℕ × V))). passing (named es)) (sym more))
 
 -- what is made of the seats that pass
 pub seats_passing : {V R : Type 0} (f : ℕ → R) (p : V → Bool) (seats : List (Numbered V)) (es : List (ℕ × V)) → map seen seats ≡ es
@@ -111,7 +115,8 @@ none_own t m (e ∷ es) other = rw other (none_own t m es other)
 
 own_head : {V : Type 0} (t : ℕ) (table : ℕ × List (ℕ × V)) (tables : List (ℕ × List (ℕ × V))) (b : Bool) → (table.0 == t) ≡ b → IsOnce (table ∷ tables)
     → filter (λ e. e.0.0 == t) (named tables) ≡ entries t (table_at t tables)
-    → filter (λ e. e.0.0 == t) (entries table.0 table.1) ++ filter (λ e. e.0.0 == t) (named tables) ≡ entries t (table_in (if b then Some table.1 else at t tables))
+    → filter (λ e. e.0.0 == t) (entries table.0 table.1) ++ filter (λ e. e.0.0 == t) (named tables)
+    ≡ entries t (table_in (if b then Some table.1 else at t tables))
 own_head t table tables true is once later =
     let key : is_at (nat_cmp t) table.0 ≡ true = at_key t table.0 ∙ is in
     let none : at t tables ≡ None = lookup-none (is_at (nat_cmp t)) tables (none_past_head (eq_by_cmp_equiv nat_cmp_total) t table tables once key) in
@@ -123,7 +128,8 @@ own_head t table tables false is once later = rw (none_own t table.0 table.1 is)
 own_entries : {V : Type 0} (t : ℕ) (tables : List (ℕ × List (ℕ × V))) → IsOnce tables → filter (λ e. e.0.0 == t) (named tables) ≡ entries t (table_at t tables)
 own_entries t [] once = refl
 own_entries t (table ∷ tables) once =
-    rw (filter-append, at_key t table.0) (own_head t table tables (table.0 == t) refl once (own_entries t tables (IsDistinct-tail (eq_by_cmp nat_cmp) table.0 (keys_of tables) once)))
+    rw (filter-append, at_key t table.0)
+    (own_head t table tables (table.0 == t) refl once (own_entries t tables (IsDistinct-tail (eq_by_cmp nat_cmp) table.0 (keys_of tables) once)))
 
 pub own_names : {V R : Type 0} (f : Name → R) (t : ℕ) (tables : List (ℕ × List (ℕ × V))) (found : Option (List (ℕ × V))) → IsOnce tables → found ≡ at t tables
     → map (λ e. f (t, e.0)) (table_in found) ≡ map (λ e. f e.0) (filter (λ e. e.0.0 == t) (named tables))

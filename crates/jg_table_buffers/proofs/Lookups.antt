@@ -29,7 +29,8 @@ reopened a b e is stands =
 -- the row of a buffer is what the look-ups find
 pub row_is : {I : Type 0} (shows : I → List ℤ) (es : List ((ℕ × ℕ) × Copied I)) (fs : List ((ℕ × ℕ) × Pinned)) (rows : Rows) (m n : ℕ)
     → record { lent = map (copy_seen shows) es ++ map pin_seen fs } ≡ rows
-    → row_of m n rows ≡ first_of (option_map (λ w. copy_seen shows ((m, n), w)) (lookup (same_name (m, n)) es)) (option_map (λ w. pin_seen ((m, n), w)) (lookup (same_name (m, n)) fs))
+    → row_of m n rows ≡ first_of (option_map (λ w. copy_seen shows ((m, n), w)) (lookup (same_name (m, n)) es))
+    (option_map (λ w. pin_seen ((m, n), w)) (lookup (same_name (m, n)) fs))
 row_is shows es fs rows m n is =
     ap (row_of m n) (sym is) ∙ (find-append (is_buffer m n) (map (copy_seen shows) es) (map pin_seen fs)
     ∙ (ap (λ c. first_of c (find (is_buffer m n) (map pin_seen fs))) (found_row (copy_seen shows) (λ i j e. refl) m n es)
@@ -54,11 +55,13 @@ content_by : (e : List Event) (m n i : ℕ) (b : Buffer) (critical : Bool) → i
 content_by e m n i b true within = absurd (omega arith)
 content_by e m n i b false within = get_or-map-range_with_len (content e m n) 0 b.length i i (pos 0) within (zero-add i)
 
-content_at : (e : List Event) (m n i : ℕ) (found : Option Buffer) → i < copy_length (row_now e m n found) → slice_index_or (items_in (row_now e m n found)) i (pos 0) ≡ content e m n i
+content_at : (e : List Event) (m n i : ℕ) (found : Option Buffer) → i < copy_length (row_now e m n found)
+    → slice_index_or (items_in (row_now e m n found)) i (pos 0) ≡ content e m n i
 content_at e m n i None within = absurd (omega arith)
 content_at e m n i (Some b) within = content_by e m n i b (is_critical b.family) within
 
-pub content_law : (rows : Rows) (e : List Event) (m n i : ℕ) → Stands rows e → i < copy_length (row_of m n rows) → slice_index_or (items_in (row_of m n rows)) i (pos 0) ≡ content e m n i
+pub content_law : (rows : Rows) (e : List Event) (m n i : ℕ) → Stands rows e → i < copy_length (row_of m n rows)
+    → slice_index_or (items_in (row_of m n rows)) i (pos 0) ≡ content e m n i
 content_law rows e m n i stands within =
     let row = row_law rows e m n stands in
     let P : Option Buffer → Type 0 = λ r. i < copy_length r in
@@ -98,12 +101,14 @@ pub still_open : (found : Option Buffer) (c : Bool) (b : Buffer) → if◌then�
 still_open found true b now = cc
 still_open found false b now = now
 
-left_by : (x b : Buffer) (critical : Bool) → is_critical x.family ≡ critical → if◌then◌else◌ {A = Option Buffer} critical None (Some x) ≡ Some b → (Some x ≡ Some b) × (is_critical b.family ≡ false)
+left_by : (x b : Buffer) (critical : Bool) → is_critical x.family ≡ critical → if◌then◌else◌ {A = Option Buffer} critical None (Some x) ≡ Some b
+    → (Some x ≡ Some b) × (is_critical b.family ≡ false)
 left_by x b true is now = cc
 left_by x b false is now = (now, ap (λ y. is_critical y.family) (sym (same_Some x b now)) ∙ is)
 
 -- what is open after the end of a session was open before it, and is a copy where the session was its thread's
-pub still_lent : (found : Option Buffer) (c : Bool) (b : Buffer) → (if c then copied_only found else found) ≡ Some b → (found ≡ Some b) × ((c && is_critical b.family) ≡ false)
+pub still_lent : (found : Option Buffer) (c : Bool) (b : Buffer) → (if c then copied_only found else found) ≡ Some b
+    → (found ≡ Some b) × ((c && is_critical b.family) ≡ false)
 still_lent None true b now = cc
 still_lent (Some x) true b now = left_by x b (is_critical x.family) refl now
 still_lent found false b now = (now, refl)

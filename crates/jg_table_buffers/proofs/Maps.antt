@@ -59,7 +59,8 @@ pub found_row : {X : Type 0} (f : (ℕ × ℕ) × X → Buffer) (keyed : Keyed f
 found_row f keyed m n [] = refl
 found_row f keyed m n (e ∷ es) = rw (name_laws.symm (m, n) e.0, keyed m n e) (found_by f m n e es (same_name e.0 (m, n)) refl (found_row f keyed m n es))
 
-kept_by : {X : Type 0} (f : (ℕ × ℕ) × X → Buffer) (m n : ℕ) (e : (ℕ × ℕ) × X) (es : List ((ℕ × ℕ) × X)) (b : Bool) → same_name e.0 (m, n) ≡ b → IsDistinct same_name (keys_of (e ∷ es))
+kept_by : {X : Type 0} (f : (ℕ × ℕ) × X → Buffer) (m n : ℕ) (e : (ℕ × ℕ) × X) (es : List ((ℕ × ℕ) × X)) (b : Bool) → same_name e.0 (m, n) ≡ b
+    → IsDistinct same_name (keys_of (e ∷ es))
     → filter (is_buffer m n) (map f es) ≡ option_to_list (option_map (λ w. f ((m, n), w)) (lookup (same_name (m, n)) es))
     → (if b then f e ∷ filter (is_buffer m n) (map f es) else filter (is_buffer m n) (map f es))
     ≡ option_to_list (option_map (λ w. f ((m, n), w)) (if b then Some e.1 else lookup (same_name (m, n)) es))
@@ -77,11 +78,13 @@ IsExact f es = (m n : ℕ) → filter (is_buffer m n) (map f es) ≡ option_to_l
 pub exact : {X : Type 0} (f : (ℕ × ℕ) × X → Buffer) (keyed : Keyed f) (es : List ((ℕ × ℕ) × X)) → IsDistinct same_name (keys_of es) → IsExact f es
 exact f keyed [] distinct m n = refl
 exact f keyed (e ∷ es) distinct m n =
-    rw (name_laws.symm (m, n) e.0, keyed m n e) (kept_by f m n e es (same_name e.0 (m, n)) refl distinct (exact f keyed es (IsDistinct-tail same_name e.0 (keys_of es) distinct) m n))
+    rw (name_laws.symm (m, n) e.0, keyed m n e)
+    (kept_by f m n e es (same_name e.0 (m, n)) refl distinct (exact f keyed es (IsDistinct-tail same_name e.0 (keys_of es) distinct) m n))
 
 -- ---- counts
 
-some_here : {X : Type 0} (p : X → Bool) (x : X) (xs : List X) (b : Bool) → nat_lt 0 (how_many p xs) ≡ list_any p xs → nat_lt 0 (if b then how_many p xs + 1 else how_many p xs) ≡ (b || list_any p xs)
+some_here : {X : Type 0} (p : X → Bool) (x : X) (xs : List X) (b : Bool) → nat_lt 0 (how_many p xs) ≡ list_any p xs
+    → nat_lt 0 (if b then how_many p xs + 1 else how_many p xs) ≡ (b || list_any p xs)
 some_here p x xs true is = grind (arith, nat_tests)
 some_here p x xs false is = is
 
@@ -99,7 +102,8 @@ counted_sum p [] = refl
 counted_sum p (x ∷ xs) = sum_by-cons (λ x. once_if (p x)) x xs ∙ (ap (λ h. once_if (p x) + h) (counted_sum p xs) ∙ added (p x) (how_many p xs))
 
 -- one entry less is one less of the count
-pub counted_popped : {X : Type 0} (p : X → Bool) (x : X) (xs ys : List X) → IsPermutation xs (x ∷ ys) → how_many p xs ≡ (if p x then how_many p ys + 1 else how_many p ys)
+pub counted_popped : {X : Type 0} (p : X → Bool) (x : X) (xs ys : List X) → IsPermutation xs (x ∷ ys)
+    → how_many p xs ≡ (if p x then how_many p ys + 1 else how_many p ys)
 counted_popped p x xs ys moves =
     let popped = sum_by_popped (λ x. once_if (p x)) x xs ys moves in
     let before = counted_sum p xs in

@@ -36,7 +36,8 @@ own_name m n k i b own = grind (arith, nat_tests)
 own_maker : (m n : ℕ) (b : Buffer) → is_same m n b.maker b.n ≡ true → b.maker ≡ m
 own_maker m n b own = grind (arith, nat_tests)
 
-opened_since : (e : List Event) (m n : ℕ) (at b : Buffer) (c : Bool) → is_same m n at.maker at.n ≡ c → (opened e m n ≡ Some b → OpenSince e m n b) → (if c then Some at else opened e m n) ≡ Some b
+opened_since : (e : List Event) (m n : ℕ) (at b : Buffer) (c : Bool) → is_same m n at.maker at.n ≡ c → (opened e m n ≡ Some b → OpenSince e m n b)
+    → (if c then Some at else opened e m n) ≡ Some b
     → OpenSince (Opened at ∷ e) m n b
 opened_since e m n at b true is older now =
     let same : at ≡ b = same_Some at b now in
@@ -63,20 +64,23 @@ open_since (ReleaseAll k ∷ e) m n b now =
     let since = open_since e m n b left.0 in
     same_later (ReleaseAll k) e m n b (ap (λ o. (k == o) && is_critical b.family) (own_maker m n b since.own) ∙ left.1) since
 
-left_open : (b : Buffer) (c critical : Bool) → (c && critical) ≡ false → (if c then if◌then◌else◌ {A = Option Buffer} critical None (Some b) else Some b) ≡ Some b
+left_open : (b : Buffer) (c critical : Bool) → (c && critical) ≡ false
+    → (if c then if◌then◌else◌ {A = Option Buffer} critical None (Some b) else Some b) ≡ Some b
 left_open b true true some = cc
 left_open b true false none = refl
 left_open b false critical none = refl
 
 -- an event that isn't about it leaves it open
-open_left : (ev : Event) (e : List Event) (m n : ℕ) (b : Buffer) → is_same m n b.maker b.n ≡ true → about b ev ≡ false → opened e m n ≡ Some b → opened (ev ∷ e) m n ≡ Some b
+open_left : (ev : Event) (e : List Event) (m n : ℕ) (b : Buffer) → is_same m n b.maker b.n ≡ true → about b ev ≡ false → opened e m n ≡ Some b
+    → opened (ev ∷ e) m n ≡ Some b
 open_left (Opened at) e m n b own other was = rw (sym (own_name m n at.maker at.n b own) ∙ other) was
 open_left (Wrote k i j v) e m n b own other was = was
 open_left (Closed k i) e m n b own other was = rw (sym (own_name m n k i b own) ∙ other) was
 open_left (ReleaseAll k) e m n b own other was =
     rw was (left_open b (k == m) (is_critical b.family) (sym (ap (λ o. (k == o) && is_critical b.family) (own_maker m n b own)) ∙ other))
 
-open_kept : (later before : List Event) (m n : ℕ) (b : Buffer) → is_same m n b.maker b.n ≡ true → list_any (about b) later ≡ false → opened (later ++ Opened b ∷ before) m n ≡ Some b
+open_kept : (later before : List Event) (m n : ℕ) (b : Buffer) → is_same m n b.maker b.n ≡ true → list_any (about b) later ≡ false
+    → opened (later ++ Opened b ∷ before) m n ≡ Some b
 open_kept [] before m n b own kept = rw own refl
 open_kept (ev ∷ later) before m n b own kept =
     let parts = or_parts (about b ev) (list_any (about b) later) kept in
@@ -93,7 +97,8 @@ content_other (Wrote k j p v) e m n i other = rw other refl
 content_other (Closed k j) e m n i other = refl
 content_other (ReleaseAll k) e m n i other = refl
 
-pub written_means : (later before : List Event) (m n i : ℕ) (v : ℤ) → list_any (changes m n i) later ≡ false → content (later ++ Wrote m n i v ∷ before) m n i ≡ v
+pub written_means : (later before : List Event) (m n i : ℕ) (v : ℤ) → list_any (changes m n i) later ≡ false
+    → content (later ++ Wrote m n i v ∷ before) m n i ≡ v
 written_means [] before m n i v kept = rw (same_self m n, eqb_self i) refl
 written_means (ev ∷ later) before m n i v kept =
     let parts = or_parts (changes m n i ev) (list_any (changes m n i) later) kept in
@@ -109,10 +114,19 @@ unwritten_means (ev ∷ later) before b i kept =
 -- ---- critical
 
 from_pin : (P : Buffer → Bool) (Q : Buffer → Type 0) (e : List Event) → ((b : Buffer) → P b ≡ true → Q b) → OpenPin P e → CriticalBuffer e Q
-from_pin P Q e says pin = record { maker = pin.maker; n = pin.n; buffer = pin.buffer; is_open = pin.is_open; critical = pin.critical; holds = says pin.buffer pin.passes }
+from_pin P Q e says pin =
+    record { maker = pin.maker; n = pin.n; buffer = pin.buffer; is_open = pin.is_open; critical = pin.critical; holds = says pin.buffer pin.passes }
 
 to_pin : (P : Buffer → Bool) (Q : Buffer → Type 0) (e : List Event) → ((b : Buffer) → Q b → P b ≡ true) → CriticalBuffer e Q → OpenPin P e
-to_pin P Q e says pin = record { maker = pin.maker; n = pin.n; buffer = pin.buffer; is_open = pin.is_open; critical = pin.critical; passes = says pin.buffer pin.holds }
+to_pin P Q e says pin = record {
+  maker = pin.maker;
+  n = pin.n;
+  buffer = pin.buffer;
+  is_open = pin.is_open;
+  critical = pin.critical;
+  passes =
+      says pin.buffer pin.holds;
+}
 
 pub ref_self : (r : Ref) → same_ref r r ≡ true
 ref_self Null = refl
@@ -130,7 +144,8 @@ pub pinned_there : (e : List Event) (r : Ref) → pinned_by e r ≡ true → Cri
 pinned_there e r is = from_pin (λ b. same_ref b.via r) (λ b. b.via ≡ r) e (λ b passes. same_ref_is b.via r passes) (pins_law (λ b. same_ref b.via r) e is)
 
 pub pinned_back : (e : List Event) (r : Ref) → CriticalBuffer e (λ b. b.via ≡ r) → pinned_by e r ≡ true
-pinned_back e r pin = pins_have (λ b. same_ref b.via r) e (to_pin (λ b. same_ref b.via r) (λ b. b.via ≡ r) e (λ b is. ap (λ q. same_ref q r) is ∙ ref_self r) pin)
+pinned_back e r pin = pins_have (λ b. same_ref b.via r) e
+    (to_pin (λ b. same_ref b.via r) (λ b. b.via ≡ r) e (λ b is. ap (λ q. same_ref q r) is ∙ ref_self r) pin)
 
 pub object_there : (e : List Event) (o : ℕ) → pins_object e o ≡ true → CriticalBuffer e (λ b. b.object ≡ o)
 object_there e o is = from_pin (λ b. b.object == o) (λ b. b.object ≡ o) e (λ b passes. eqb-true b.object o passes) (pins_law (λ b. b.object == o) e is)
@@ -155,12 +170,15 @@ was_given : (later e : List Event) (m n : ℕ) → list_any (opens m n) e ≡ tr
 was_given [] e m n made = made
 was_given (ev ∷ later) e m n made = rw (was_given later e m n made) (elim (opens m n ev) as (λ b. (b || true) ≡ true) [ true ↦ refl | false ↦ refl ])
 
-pub stays_closed : (later e : List Event) (m n : ℕ) → NumbersRise (later ++ e) → list_any (opens m n) e ≡ true → opened e m n ≡ None → opened (later ++ e) m n ≡ None
+pub stays_closed : (later e : List Event) (m n : ℕ) → NumbersRise (later ++ e) → list_any (opens m n) e ≡ true → opened e m n ≡ None
+    → opened (later ++ e) m n ≡ None
 stays_closed [] e m n rise made none = none
-stays_closed (Opened b ∷ later) e m n rise made none = rw (given_below (later ++ e) m n b.maker b.n (was_given later e m n made) rise.0) (stays_closed later e m n rise.1 made none)
+stays_closed (Opened b ∷ later) e m n rise made none =
+    rw (given_below (later ++ e) m n b.maker b.n (was_given later e m n made) rise.0) (stays_closed later e m n rise.1 made none)
 stays_closed (Wrote k i j v ∷ later) e m n rise made none = stays_closed later e m n rise made none
 stays_closed (Closed k i ∷ later) e m n rise made none =
-    rw (stays_closed later e m n rise made none) (elim (is_same m n k i) as (λ b. if◌then◌else◌ {A = Option Buffer} b None None ≡ None) [ true ↦ refl | false ↦ refl ])
+    rw (stays_closed later e m n rise made none)
+    (elim (is_same m n k i) as (λ b. if◌then◌else◌ {A = Option Buffer} b None None ≡ None) [ true ↦ refl | false ↦ refl ])
 stays_closed (ReleaseAll k ∷ later) e m n rise made none =
     rw (stays_closed later e m n rise made none) (elim (k == m) as (λ b. if◌then◌else◌ {A = Option Buffer} b None None ≡ None) [ true ↦ refl | false ↦ refl ])
 
@@ -175,7 +193,8 @@ open_below (Wrote j l p v ∷ e) k i n b now below = open_below e k i n b now be
 open_below (Closed j l ∷ e) k i n b now below = open_below e k i n b (still_open (opened e k i) (is_same k i j l) b now) below
 open_below (ReleaseAll j ∷ e) k i n b now below = open_below e k i n b (still_lent (opened e k i) (j == k) b now).0 below
 
-was_open : (e : List Event) (m n : ℕ) (found : Option Buffer) (b : Buffer) → opened e m n ≡ found → row_now e m n found ≡ Some b → (x : Buffer) × (opened e m n ≡ Some x)
+was_open : (e : List Event) (m n : ℕ) (found : Option Buffer) (b : Buffer) → opened e m n ≡ found → row_now e m n found ≡ Some b
+    → (x : Buffer) × (opened e m n ≡ Some x)
 was_open e m n None b is now = cc
 was_open e m n (Some x) b is now = (x, is)
 

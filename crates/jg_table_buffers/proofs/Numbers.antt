@@ -19,7 +19,8 @@ numbered k i n (row ∷ rows) b above found =
 below_law : (rows : Rows) (k i n : ℕ) (b : Buffer) → IsAbove k i rows → row_of k n rows ≡ Some b → n < i
 below_law rows k i n b above found = numbered k i n rows.lent b (recursion_from_All _ _ above) found
 
-found_by : (p : Buffer → Bool) (row : Buffer) (rows : List Buffer) (b : Bool) → (b ≡ true) ⊎ ((x : Buffer) × (find p rows ≡ Some x)) → (x : Buffer) × ((if b then Some row else find p rows) ≡ Some x)
+found_by : (p : Buffer → Bool) (row : Buffer) (rows : List Buffer) (b : Bool) → (b ≡ true) ⊎ ((x : Buffer) × (find p rows ≡ Some x))
+    → (x : Buffer) × ((if b then Some row else find p rows) ≡ Some x)
 found_by p row rows true either = (row, refl)
 found_by p row rows false (inl is) = cc
 found_by p row rows false (inr later) = later
@@ -29,7 +30,8 @@ member_found p x [] there passes = absurd there
 member_found p x (row ∷ rows) (inl same) passes = found_by p row rows (p row) (inl (ap p (sym same) ∙ passes))
 member_found p x (row ∷ rows) (inr later) passes = found_by p row rows (p row) (inr (member_found p x rows later passes))
 
-row_below : (rows : Rows) (k i : ℕ) → ((n : ℕ) (b : Buffer) → row_of k n rows ≡ Some b → n < i) → (row : Buffer) → Member row rows.lent → row.maker ≡ k → row.n < i
+row_below : (rows : Rows) (k i : ℕ) → ((n : ℕ) (b : Buffer) → row_of k n rows ≡ Some b → n < i) → (row : Buffer) → Member row rows.lent → row.maker ≡ k
+    → row.n < i
 row_below rows k i each row there is =
     let mine : is_buffer k row.n row ≡ true = grind (arith, nat_tests) in
     let found = member_found (is_buffer k row.n) row rows.lent there mine in
@@ -45,7 +47,8 @@ number_by old new m n was k i j b above below found true is = grind (arith, nat_
 number_by old new m n was k i j b above below found false is = let before = was k j b is found in below_law old k i j before.0 above before.1
 
 -- each row was there before, but one
-pub adds_number : (old new : Rows) (m n : ℕ) → ((k j : ℕ) (b : Buffer) → is_same k j m n ≡ false → row_of k j new ≡ Some b → (x : Buffer) × (row_of k j old ≡ Some x)) → AddsNumber m n old new
+pub adds_number : (old new : Rows) (m n : ℕ)
+    → ((k j : ℕ) (b : Buffer) → is_same k j m n ≡ false → row_of k j new ≡ Some b → (x : Buffer) × (row_of k j old ≡ Some x)) → AddsNumber m n old new
 adds_number old new m n was k i above below = above_law new k i (λ j b found. number_by old new m n was k i j b above below found (is_same k j m n) refl)
 
 -- each row was there before

@@ -84,8 +84,10 @@ any_put : (m n : ℕ) (b : BufId) (cs : List BufId) → list_any (names m n) (pu
 any_put m n b [] = refl
 any_put m n b (c ∷ cs) = by (is_before b c) refl (is_before c b) refl (any_put m n b cs)
   where
-    by : (first : Bool) → is_before b c ≡ first → (second : Bool) → is_before c b ≡ second → list_any (names m n) (put_in b cs) ≡ (names m n b || list_any (names m n) cs)
-        → list_any (names m n) (if first then b ∷ c ∷ cs else if second then c ∷ put_in b cs else c ∷ cs) ≡ (names m n b || (names m n c || list_any (names m n) cs))
+    by : (first : Bool) → is_before b c ≡ first → (second : Bool) → is_before c b ≡ second
+        → list_any (names m n) (put_in b cs) ≡ (names m n b || list_any (names m n) cs)
+        → list_any (names m n) (if first then b ∷ c ∷ cs else if second then c ∷ put_in b cs else c ∷ cs)
+        ≡ (names m n b || (names m n c || list_any (names m n) cs))
     by true is second other rest = refl
     by false is true other rest = ap (λ r. names m n c || r) rest ∙ or_swap (names m n c) (names m n b) (list_any (names m n) cs)
     by false is false other rest = or_twice (names m n b) (names m n c) (list_any (names m n) cs) (same_names m n b c is other)
@@ -102,7 +104,8 @@ name_at m n = record { maker = record { 0 = m }; n = n }
 before_named : (m n : ℕ) (b c : BufId) → names m n c ≡ true → is_before b c ≡ true → is_before b (name_at m n) ≡ true
 before_named m n b c is p = grind (arith, nat_tests, is, p)
 
-below_here : (m n : ℕ) (b c : BufId) (here rest : Bool) → names m n c ≡ here → is_before b c ≡ true → (rest ≡ true → is_before b (name_at m n) ≡ true) → (here || rest) ≡ true
+below_here : (m n : ℕ) (b c : BufId) (here rest : Bool) → names m n c ≡ here → is_before b c ≡ true → (rest ≡ true → is_before b (name_at m n) ≡ true)
+    → (here || rest) ≡ true
     → is_before b (name_at m n) ≡ true
 below_here m n b c true rest is low later some = before_named m n b c is low
 below_here m n b c false rest is low later some = later some
@@ -143,7 +146,8 @@ none_later m n x xs low is = by (list_any (names m n) xs) refl
     by true some = absurd (not_itself m n x is (below_any m n x xs low some))
     by false none = refl
 
-tails : (m n : ℕ) (x : BufId) (xs ys : List BufId) → Below x xs → Below x ys → (names m n x || list_any (names m n) xs) ≡ (names m n x || list_any (names m n) ys)
+tails : (m n : ℕ) (x : BufId) (xs ys : List BufId) → Below x xs → Below x ys
+    → (names m n x || list_any (names m n) xs) ≡ (names m n x || list_any (names m n) ys)
     → list_any (names m n) xs ≡ list_any (names m n) ys
 tails m n x xs ys low low' same = by (names m n x) refl same
   where
@@ -184,7 +188,8 @@ ascends_tail x xs up k d low high =
     let next = add-one k in
     let lt : BufId → BufId → Bool = λ b c. is_lt (pair_cmp (buffer_key b) (buffer_key c)) in
     let step = up (suc k) d (omega arith) (omega (arith, high)) in
-    ap (λ i. lt (slice_index_or xs i d) (slice_index_or xs k d)) next ∙ ap (λ i. lt (slice_index_or (x ∷ xs) i d) (slice_index_or xs k d)) (sym (add-one (suc k))) ∙ step
+    ap (λ i. lt (slice_index_or xs i d) (slice_index_or xs k d)) next
+    ∙ ap (λ i. lt (slice_index_or (x ∷ xs) i d) (slice_index_or xs k d)) (sym (add-one (suc k))) ∙ step
 
 second_counts : (x y : BufId) (r : List BufId) → names x.maker.0 x.n y ≡ true → length (filter (names x.maker.0 x.n) (x ∷ y ∷ r)) ≤ 1 → ⊥
 second_counts x y r is once =
@@ -244,9 +249,11 @@ module _ {I : Type 0} (shows : I → List ℤ) (es : List ((ℕ × ℕ) × Copie
   pins_once m n =
       let here : List ((ℕ × ℕ) × Pinned) = filter (λ f. is_same m n f.0.0 f.0.1) fs in
       let long : length (map pin_seen here) ≡ length here = length-map here pin_seen in
-      let mapped : map pin_seen here ≡ filter (is_buffer m n) (map pin_seen fs) = map-filter pin_seen (λ f. is_same m n f.0.0 f.0.1) (is_buffer m n) (λ f. refl) fs in
+      let mapped : map pin_seen here ≡ filter (is_buffer m n) (map pin_seen fs) =
+      map-filter pin_seen (λ f. is_same m n f.0.0 f.0.1) (is_buffer m n) (λ f. refl) fs in
       let sizes : length (map pin_seen here) ≡ length (filter (is_buffer m n) (map pin_seen fs)) = ap length mapped in
-      let both : length (filter (is_buffer m n) (map (copy_seen shows) es)) + length (filter (is_buffer m n) (map pin_seen fs)) ≡ length (rows_of e m n (opened e m n)) =
+      let both : length (filter (is_buffer m n) (map (copy_seen shows) es)) + length (filter (is_buffer m n) (map pin_seen fs))
+      ≡ length (rows_of e m n (opened e m n)) =
       sym (length-append (filter (is_buffer m n) (map (copy_seen shows) es)) (filter (is_buffer m n) (map pin_seen fs)))
       ∙ ap length (sym (filter-append (is_buffer m n) (map (copy_seen shows) es) (map pin_seen fs)) ∙ stands m n) in
       omega (arith, long, sizes, both, row_once e m n (opened e m n))
@@ -263,7 +270,8 @@ module _ {I : Type 0} (shows : I → List ℤ) (es : List ((ℕ × ℕ) × Copie
 
   -- sorted, the names of the pinned rows that pass are those of the open critical buffers that pass, in order
   pub sorted_pins : (P : Buffer → Bool) (blind : IsBlind P) (T : (ℕ × ℕ) × Pinned → Bool) → ((f : (ℕ × ℕ) × Pinned) → T f ≡ P (pin_seen f))
-      → (listed sorted : List BufId) → listed ≡ map named_so (filter T fs) → IsPermutation listed sorted → Ascends sorted → sorted ≡ in_order (filter P (pins e))
+      → (listed sorted : List BufId) → listed ≡ map named_so (filter T fs) → IsPermutation listed sorted → Ascends sorted
+      → sorted ≡ in_order (filter P (pins e))
   sorted_pins P blind T alike listed sorted is moved up =
       let once : (m n : ℕ) → length (filter (names m n) sorted) ≤ 1 =
       λ m n. omega (arith, counts_moved (names m n) listed sorted moved, ap (λ l. length (filter (names m n) l)) is, names_once T m n) in

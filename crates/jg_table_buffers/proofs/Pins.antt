@@ -38,7 +38,8 @@ record PinAt (P : Buffer → Bool) (e : List Event) (m n : ℕ) : Type 0 where
   critical : is_critical buffer.family ≡ true
   passes : P buffer ≡ true
 
-passing : (P : Buffer → Bool) (all : List Event) (m n : ℕ) (b : Buffer) (rest : Bool) (p : Bool) → P b ≡ p → opened all m n ≡ Some b → is_critical b.family ≡ true → (rest ≡ true → OpenPin P all)
+passing : (P : Buffer → Bool) (all : List Event) (m n : ℕ) (b : Buffer) (rest : Bool) (p : Bool) → P b ≡ p → opened all m n ≡ Some b
+    → is_critical b.family ≡ true → (rest ≡ true → OpenPin P all)
     → (p || rest) ≡ true → OpenPin P all
 passing P all m n b rest true is there critical later some = record { maker = m; n = n; buffer = b; is_open = there; critical = critical; passes = is }
 passing P all m n b rest false is there critical later some = later some
@@ -49,7 +50,8 @@ if_critical : (P : Buffer → Bool) (all : List Event) (m n : ℕ) (b : Buffer) 
 if_critical P all m n b rest true is there later some = passing P all m n b (list_any P rest) (P b) refl there is later some
 if_critical P all m n b rest false is there later some = later some
 
-of_found : (P : Buffer → Bool) (all : List Event) (m n : ℕ) (found : Option Buffer) (rest : List Buffer) → opened all m n ≡ found → (list_any P rest ≡ true → OpenPin P all)
+of_found : (P : Buffer → Bool) (all : List Event) (m n : ℕ) (found : Option Buffer) (rest : List Buffer) → opened all m n ≡ found
+    → (list_any P rest ≡ true → OpenPin P all)
     → list_any P (cons_option (critical_only found) rest) ≡ true → OpenPin P all
 of_found P all m n None rest is later some = later some
 of_found P all m n (Some b) rest is later some = if_critical P all m n b rest (is_critical b.family) refl is later some
@@ -65,19 +67,23 @@ any_more : (P : Buffer → Bool) (found : Option Buffer) (rest : List Buffer) �
 any_more P None rest is = is
 any_more P (Some b) rest is = or_right (P b) (list_any P rest) is
 
-pin_here : (P : Buffer → Bool) (all e : List Event) (m n : ℕ) (at b : Buffer) (c : Bool) → is_same m n at.maker at.n ≡ c → opened all m n ≡ Some b → is_critical b.family ≡ true → P b ≡ true
+pin_here : (P : Buffer → Bool) (all e : List Event) (m n : ℕ) (at b : Buffer) (c : Bool) → is_same m n at.maker at.n ≡ c → opened all m n ≡ Some b
+    → is_critical b.family ≡ true → P b ≡ true
     → (opened e m n ≡ Some b → list_any P (filter_map (pin_of all) e) ≡ true) → (if c then Some at else opened e m n) ≡ Some b
     → list_any P (cons_option (critical_only (opened all at.maker at.n)) (filter_map (pin_of all) e)) ≡ true
 pin_here P all e m n at b true is now critical passes older here =
     let maker : at.maker ≡ m = grind (arith, nat_tests) in
     let number : at.n ≡ n = grind (arith, nat_tests) in
     rw (maker, number, now, critical, passes) refl
-pin_here P all e m n at b false is now critical passes older here = any_more P (critical_only (opened all at.maker at.n)) (filter_map (pin_of all) e) (older here)
+pin_here P all e m n at b false is now critical passes older here =
+    any_more P (critical_only (opened all at.maker at.n)) (filter_map (pin_of all) e) (older here)
 
-was_pin : (P : Buffer → Bool) (all e : List Event) (m n : ℕ) (b : Buffer) → opened all m n ≡ Some b → is_critical b.family ≡ true → P b ≡ true → opened e m n ≡ Some b
+was_pin : (P : Buffer → Bool) (all e : List Event) (m n : ℕ) (b : Buffer) → opened all m n ≡ Some b → is_critical b.family ≡ true → P b ≡ true
+    → opened e m n ≡ Some b
     → list_any P (filter_map (pin_of all) e) ≡ true
 was_pin P all [] m n b now critical passes here = cc
-was_pin P all (Opened at ∷ e) m n b now critical passes here = pin_here P all e m n at b (is_same m n at.maker at.n) refl now critical passes (was_pin P all e m n b now critical passes) here
+was_pin P all (Opened at ∷ e) m n b now critical passes here =
+    pin_here P all e m n at b (is_same m n at.maker at.n) refl now critical passes (was_pin P all e m n b now critical passes) here
 was_pin P all (Wrote k i j v ∷ e) m n b now critical passes here = was_pin P all e m n b now critical passes here
 was_pin P all (Closed k i ∷ e) m n b now critical passes here = was_pin P all e m n b now critical passes (still_open (opened e m n) (is_same m n k i) b here)
 was_pin P all (ReleaseAll k ∷ e) m n b now critical passes here = was_pin P all e m n b now critical passes (still_lent (opened e m n) (k == m) b here).0
@@ -107,7 +113,8 @@ the_pin (Some q) pin b is free critical =
     let own : is_critical b.family ≡ false = ap (λ x. is_critical x.family) (sym same) ∙ free q refl in
     absurd (clash (is_critical b.family) critical own)
 
-pub free_copy : {I : Type 0} (shows : I → List ℤ) (q : ℕ × ℕ) (found : Option (Copied I)) (x : Buffer) → option_map (λ w. copy_seen shows (q, w)) found ≡ Some x → is_critical x.family ≡ false
+pub free_copy : {I : Type 0} (shows : I → List ℤ) (q : ℕ × ℕ) (found : Option (Copied I)) (x : Buffer) → option_map (λ w. copy_seen shows (q, w)) found ≡ Some x
+    → is_critical x.family ≡ false
 free_copy shows q None x is = cc
 free_copy shows q (Some w) x is = ap (λ b. is_critical b.family) (sym (same_Some (copy_seen shows (q, w)) x is)) ∙ copies_free w.kind
 
@@ -120,7 +127,8 @@ in_whole : {X : Type 0} (x : X) (xs ys : List X) → Member x ys → Member x (x
 in_whole x [] ys there = there
 in_whole x (y ∷ xs) ys there = inr (in_whole x xs ys there)
 
-of_row : (e : List Event) (m n : ℕ) (x : Buffer) (P : Buffer → Bool) (blind : IsBlind P) (found : Option Buffer) → opened e m n ≡ found → Member x (rows_of e m n found) → is_critical x.family ≡ true
+of_row : (e : List Event) (m n : ℕ) (x : Buffer) (P : Buffer → Bool) (blind : IsBlind P) (found : Option Buffer) → opened e m n ≡ found
+    → Member x (rows_of e m n found) → is_critical x.family ≡ true
     → P x ≡ true → PinAt P e m n
 of_row e m n x P blind None is there critical passes = absurd there
 of_row e m n x P blind (Some b) is (inr never) critical passes = absurd never
@@ -132,15 +140,18 @@ of_row e m n x P blind (Some b) is (inl same) critical passes = record {
 }
 
 -- a row of a pinned buffer that passes
-row_pinned : {I : Type 0} (shows : I → List ℤ) (P : Buffer → Bool) (blind : IsBlind P) (es : List ((ℕ × ℕ) × Copied I)) (fs : List ((ℕ × ℕ) × Pinned)) (e : List Event)
+row_pinned : {I : Type 0} (shows : I → List ℤ) (P : Buffer → Bool) (blind : IsBlind P) (es : List ((ℕ × ℕ) × Copied I)) (fs : List ((ℕ × ℕ) × Pinned))
+    (e : List Event)
     → Stands (record { lent = map (copy_seen shows) es ++ map pin_seen fs }) e → (x : Buffer) → Member x (map pin_seen fs) → P x ≡ true → PinAt P e x.maker x.n
 row_pinned shows P blind es fs e stands x there passes =
     let mine : is_buffer x.maker x.n x ≡ true = grind (arith, nat_tests) in
-    let kept = member_filter (is_buffer x.maker x.n) x (map (copy_seen shows) es ++ map pin_seen fs) (in_whole x (map (copy_seen shows) es) (map pin_seen fs) there) mine in
+    let kept = member_filter (is_buffer x.maker x.n) x (map (copy_seen shows) es ++ map pin_seen fs)
+    (in_whole x (map (copy_seen shows) es) (map pin_seen fs) there) mine in
     let Q : List Buffer → Type 0 = λ l. Member x l in
     of_row e x.maker x.n x P blind (opened e x.maker x.n) refl (subst Q (stands x.maker x.n) kept) (critical_pin fs x there) passes
 
-row_pins : {I : Type 0} (shows : I → List ℤ) (P : Buffer → Bool) (blind : IsBlind P) (es : List ((ℕ × ℕ) × Copied I)) (fs : List ((ℕ × ℕ) × Pinned)) (e : List Event)
+row_pins : {I : Type 0} (shows : I → List ℤ) (P : Buffer → Bool) (blind : IsBlind P) (es : List ((ℕ × ℕ) × Copied I)) (fs : List ((ℕ × ℕ) × Pinned))
+    (e : List Event)
     → Stands (record { lent = map (copy_seen shows) es ++ map pin_seen fs }) e
     → list_any P (map pin_seen fs) ≡ true → list_any P (pins e) ≡ true
 row_pins shows P blind es fs e stands some =
@@ -148,7 +159,8 @@ row_pins shows P blind es fs e stands some =
     let pin = row_pinned shows P blind es fs e stands found.0 found.1.0 found.1.1 in
     pins_have P e (record { maker = found.0.maker; n = found.0.n; buffer = pin.buffer; is_open = pin.is_open; critical = pin.critical; passes = pin.passes })
 
-pinned_row : {I : Type 0} (shows : I → List ℤ) (P : Buffer → Bool) (blind : IsBlind P) (es : List ((ℕ × ℕ) × Copied I)) (fs : List ((ℕ × ℕ) × Pinned)) (e : List Event)
+pinned_row : {I : Type 0} (shows : I → List ℤ) (P : Buffer → Bool) (blind : IsBlind P) (es : List ((ℕ × ℕ) × Copied I)) (fs : List ((ℕ × ℕ) × Pinned))
+    (e : List Event)
     → Stands (record { lent = map (copy_seen shows) es ++ map pin_seen fs }) e
     → list_any P (pins e) ≡ true → list_any P (map pin_seen fs) ≡ true
 pinned_row shows P blind es fs e stands some =
@@ -156,15 +168,18 @@ pinned_row shows P blind es fs e stands some =
     let told = tells (map (copy_seen shows) es) (map pin_seen fs) e pin.maker pin.n stands in
     let row : Buffer = record pin.buffer { items = [] } in
     let rows : rows_of e pin.maker pin.n (opened e pin.maker pin.n) ≡ row ∷ [] = rw (pin.is_open, pin.critical) refl in
-    let free = λ (x : Buffer) (is : find (is_buffer pin.maker pin.n) (map (copy_seen shows) es) ≡ Some x). free_copy shows (pin.maker, pin.n) (lookup (same_name (pin.maker, pin.n)) es) x
+    let free = λ (x : Buffer) (is : find (is_buffer pin.maker pin.n) (map (copy_seen shows) es) ≡ Some x). free_copy shows (pin.maker, pin.n)
+    (lookup (same_name (pin.maker, pin.n)) es) x
     (sym (found_row (copy_seen shows) (λ i j y. refl) pin.maker pin.n es) ∙ is) in
-    let found = the_pin (find (is_buffer pin.maker pin.n) (map (copy_seen shows) es)) (find (is_buffer pin.maker pin.n) (map pin_seen fs)) row (told.agrees ∙ rows) free pin.critical in
+    let found = the_pin (find (is_buffer pin.maker pin.n) (map (copy_seen shows) es)) (find (is_buffer pin.maker pin.n) (map pin_seen fs)) row
+    (told.agrees ∙ rows) free pin.critical in
     let kept : filter (is_buffer pin.maker pin.n) (map pin_seen fs) ≡ row ∷ [] = told.pin ∙ ap option_to_list found in
     let passes : P row ≡ true = blind pin.buffer [] ∙ pin.passes in
     any_of_filter P (is_buffer pin.maker pin.n) (map pin_seen fs) (rw (kept, passes) refl)
 
 -- a test of the pinned rows and of the open critical buffers
-pub pin_law : {I : Type 0} (shows : I → List ℤ) (P : Buffer → Bool) (blind : IsBlind P) (es : List ((ℕ × ℕ) × Copied I)) (fs : List ((ℕ × ℕ) × Pinned)) (e : List Event)
+pub pin_law : {I : Type 0} (shows : I → List ℤ) (P : Buffer → Bool) (blind : IsBlind P) (es : List ((ℕ × ℕ) × Copied I)) (fs : List ((ℕ × ℕ) × Pinned))
+    (e : List Event)
     → Stands (record { lent = map (copy_seen shows) es ++ map pin_seen fs }) e
     → list_any (λ f. P (pin_seen f)) fs ≡ list_any P (pins e)
 pin_law shows P blind es fs e stands =

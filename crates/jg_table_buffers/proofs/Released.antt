@@ -58,10 +58,12 @@ left_by : {I : Type 0} (shows : I → List ℤ) (e : List Event) (m n t : ℕ) (
     → option_to_list (option_map (λ w. copy_seen shows ((m, n), w)) copy) ++ option_to_list (option_map (λ w. pin_seen ((m, n), w)) (if own then None else pin))
     ≡ rows_of (ReleaseAll t ∷ e) m n (if own then copied_only found else found)
 left_by shows e m n t copy pin found true was =
-    left_here e m n t (option_map (λ w. copy_seen shows ((m, n), w)) copy) (option_map (λ w. pin_seen ((m, n), w)) pin) found (free_copy shows (m, n) copy) (critical_pin (m, n) pin) was
+    left_here e m n t (option_map (λ w. copy_seen shows ((m, n), w)) copy) (option_map (λ w. pin_seen ((m, n), w)) pin) found (free_copy shows (m, n) copy)
+    (critical_pin (m, n) pin) was
 left_by shows e m n t copy pin found false was = was ∙ sym (rows_kept (ReleaseAll t ∷ e) e m n found (λ i. refl))
 
-pub release_law : {I : Type 0} (shows : I → List ℤ) (es : List (Name × Copied I)) (fs others : List (Name × Pinned)) (e : List Event) (t : ℕ) → Stands (seen shows es fs) e → StayOnce fs others
+pub release_law : {I : Type 0} (shows : I → List ℤ) (es : List (Name × Copied I)) (fs others : List (Name × Pinned)) (e : List Event) (t : ℕ)
+    → Stands (seen shows es fs) e → StayOnce fs others
     → Clears t fs others
     → Stands (seen shows es others) (ReleaseAll t ∷ e)
 release_law shows es fs others e t stands once left = stands_by (map (copy_seen shows) es) (map pin_seen others) (ReleaseAll t ∷ e) (λ m n.
@@ -91,7 +93,8 @@ row_by shows q None None true = refl
 row_by shows q copy pin false = refl
 
 -- each row is as the event leaves the buffer
-pub released_row : {I : Type 0} (shows : I → List ℤ) (es : List (Name × Copied I)) (fs others : List (Name × Pinned)) (rows : Rows) (t : ℕ) → seen shows es fs ≡ rows → Clears t fs others
+pub released_row : {I : Type 0} (shows : I → List ℤ) (es : List (Name × Copied I)) (fs others : List (Name × Pinned)) (rows : Rows) (t : ℕ)
+    → seen shows es fs ≡ rows → Clears t fs others
     → (m n : ℕ) → row_of m n (seen shows es others) ≡ (if t == m then copied_only (row_of m n rows) else row_of m n rows)
 released_row shows es fs others rows t view left m n =
     row_is shows es others (seen shows es others) m n refl
@@ -99,7 +102,8 @@ released_row shows es fs others rows t view left m n =
     ∙ row_by shows (m, n) (lookup (same_name (m, n)) es) (lookup (same_name (m, n)) fs) (t == m)
     ∙ ap (λ row. if t == m then copied_only row else row) (sym (row_is shows es fs rows m n view))
 
-pub released_numbers : {I : Type 0} (shows : I → List ℤ) (es : List (Name × Copied I)) (fs others : List (Name × Pinned)) (rows : Rows) (t : ℕ) → seen shows es fs ≡ rows → Clears t fs others
+pub released_numbers : {I : Type 0} (shows : I → List ℤ) (es : List (Name × Copied I)) (fs others : List (Name × Pinned)) (rows : Rows) (t : ℕ)
+    → seen shows es fs ≡ rows → Clears t fs others
     → KeepsNumbers rows (seen shows es others)
 released_numbers shows es fs others rows t view left = keeps_numbers rows (seen shows es others)
     (λ m n b found. (b, (still_lent (row_of m n rows) (t == m) b (sym (released_row shows es fs others rows t view left m n) ∙ found)).0))

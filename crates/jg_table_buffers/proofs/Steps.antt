@@ -21,17 +21,22 @@ map_same f g alike [] = refl
 map_same f g alike (x ∷ xs) = rw (alike x, map_same f g alike xs) refl
 
 -- a buffer whose items an event doesn't touch
-pub rows_kept : (e older : List Event) (m n : ℕ) (found : Option Buffer) → ((i : ℕ) → content e m n i ≡ content older m n i) → rows_of e m n found ≡ rows_of older m n found
+pub rows_kept : (e older : List Event) (m n : ℕ) (found : Option Buffer) → ((i : ℕ) → content e m n i ≡ content older m n i)
+    → rows_of e m n found ≡ rows_of older m n found
 rows_kept e older m n None alike = refl
-rows_kept e older m n (Some b) alike = ap (λ l. record b { items = if is_critical b.family then [] else l } ∷ []) (map_same (content e m n) (content older m n) alike (range_with_len 0 b.length))
+rows_kept e older m n (Some b) alike =
+    ap (λ l. record b { items = if is_critical b.family then [] else l } ∷ []) (map_same (content e m n) (content older m n) alike (range_with_len 0 b.length))
 
-pub rows_elsewhere_opened : (e : List Event) (m n : ℕ) (b : Buffer) → is_same m n b.maker b.n ≡ false → rows_of (Opened b ∷ e) m n (opened (Opened b ∷ e) m n) ≡ rows_of e m n (opened e m n)
+pub rows_elsewhere_opened : (e : List Event) (m n : ℕ) (b : Buffer) → is_same m n b.maker b.n ≡ false
+    → rows_of (Opened b ∷ e) m n (opened (Opened b ∷ e) m n) ≡ rows_of e m n (opened e m n)
 rows_elsewhere_opened e m n b apart = rw apart (rows_kept (Opened b ∷ e) e m n (opened e m n) (λ i. rw apart refl))
 
-pub rows_elsewhere_closed : (e : List Event) (m n k i : ℕ) → is_same m n k i ≡ false → rows_of (Closed k i ∷ e) m n (opened (Closed k i ∷ e) m n) ≡ rows_of e m n (opened e m n)
+pub rows_elsewhere_closed : (e : List Event) (m n k i : ℕ) → is_same m n k i ≡ false
+    → rows_of (Closed k i ∷ e) m n (opened (Closed k i ∷ e) m n) ≡ rows_of e m n (opened e m n)
 rows_elsewhere_closed e m n k i apart = rw apart (rows_kept (Closed k i ∷ e) e m n (opened e m n) (λ j. refl))
 
-pub rows_elsewhere_wrote : (e : List Event) (m n k i j : ℕ) (v : ℤ) → is_same m n k i ≡ false → rows_of (Wrote k i j v ∷ e) m n (opened (Wrote k i j v ∷ e) m n) ≡ rows_of e m n (opened e m n)
+pub rows_elsewhere_wrote : (e : List Event) (m n k i j : ℕ) (v : ℤ) → is_same m n k i ≡ false
+    → rows_of (Wrote k i j v ∷ e) m n (opened (Wrote k i j v ∷ e) m n) ≡ rows_of e m n (opened e m n)
 rows_elsewhere_wrote e m n k i j v apart = rows_kept (Wrote k i j v ∷ e) e m n (opened e m n) (λ q. rw apart refl)
 
 pub same_self : (m n : ℕ) → is_same m n m n ≡ true
@@ -49,7 +54,8 @@ rows_of_copy e m n o family items copies =
     rw (same_self m n, copies) (ap (λ l. record b { items = l } ∷ []) (sym now))
 
 pub rows_of_pin : (e : List Event) (m n o : ℕ) (family : Family) (via : Ref) (count : ℕ) → is_critical family ≡ true
-    → pin_through m n o family via count ∷ [] ≡ rows_of (Opened (pin_through m n o family via count) ∷ e) m n (opened (Opened (pin_through m n o family via count) ∷ e) m n)
+    → pin_through m n o family via count ∷ []
+    ≡ rows_of (Opened (pin_through m n o family via count) ∷ e) m n (opened (Opened (pin_through m n o family via count) ∷ e) m n)
 rows_of_pin e m n o family via count pins = rw (same_self m n, pins) refl
 
 pub rows_of_closed : (e : List Event) (m n : ℕ) → rows_of (Closed m n ∷ e) m n (opened (Closed m n ∷ e) m n) ≡ []
@@ -66,13 +72,15 @@ written_at e m n j k v xs false is within was =
     get_or-set_other xs j k v (pos 0) apart ∙ was
 
 -- one item written
-items_written : (e : List Event) (m n j count : ℕ) (v : ℤ) → j < count → slice_set (map (content e m n) (range_with_len 0 count)) j v ≡ map (content (Wrote m n j v ∷ e) m n) (range_with_len 0 count)
+items_written : (e : List Event) (m n j count : ℕ) (v : ℤ) → j < count
+    → slice_set (map (content e m n) (range_with_len 0 count)) j v ≡ map (content (Wrote m n j v ∷ e) m n) (range_with_len 0 count)
 items_written e m n j count v within =
     let olds = map (content e m n) (range_with_len 0 count) in
     let long : length olds ≡ count = length-map-range_with_len (content e m n) 0 count in
     let inside : j < length olds = omega (arith, long) in
     fill_by_all (content (Wrote m n j v ∷ e) m n) (slice_set olds j v) count (pos 0) (length-set olds j v ∙ long)
-    (λ k below. rw (same_self m n) (written_at e m n j k v olds (j == k) refl inside (get_or-map-range_with_len (content e m n) 0 count k k (pos 0) below (zero-add k))))
+    (λ k below. rw (same_self m n)
+    (written_at e m n j k v olds (j == k) refl inside (get_or-map-range_with_len (content e m n) 0 count k k (pos 0) below (zero-add k))))
 
 pub rows_of_written : (e : List Event) (m n j : ℕ) (v : ℤ) (b : Buffer) → is_critical b.family ≡ false → j < b.length
     → record b { items = slice_set (items_now e m n b) j v } ∷ [] ≡ rows_of (Wrote m n j v ∷ e) m n (Some b)
@@ -86,7 +94,9 @@ first_of (Some x) b = Some x
 
 pub find-append : {X : Type 0} (p : X → Bool) (xs ys : List X) → find p (xs ++ ys) ≡ first_of (find p xs) (find p ys)
 find-append p [] ys = refl
-find-append p (x ∷ xs) ys = rw (find-append p xs ys) (elim (p x) as (λ b. (if b then Some x else first_of (find p xs) (find p ys)) ≡ first_of (if b then Some x else find p xs) (find p ys))
+find-append p (x ∷ xs) ys =
+    rw (find-append p xs ys) (elim (p x) as
+    (λ b. (if b then Some x else first_of (find p xs) (find p ys)) ≡ first_of (if b then Some x else find p xs) (find p ys))
     [ true ↦ refl | false ↦ refl ])
 
 -- at most one, and then not both
@@ -125,10 +135,13 @@ pub record Tells (e : List Event) (m n : ℕ) (copies pins : List Buffer) : Type
 
 pub tells : (copies pins : List Buffer) (e : List Event) (m n : ℕ) → Stands (record { lent = copies ++ pins }) e → Tells e m n copies pins
 tells copies pins e m n stands =
-    let split : filter (is_buffer m n) copies ++ filter (is_buffer m n) pins ≡ rows_of e m n (opened e m n) = sym (filter-append (is_buffer m n) copies pins) ∙ stands m n in
+    let split : filter (is_buffer m n) copies ++ filter (is_buffer m n) pins ≡ rows_of e m n (opened e m n) =
+    sym (filter-append (is_buffer m n) copies pins) ∙ stands m n in
     let one = alone (filter (is_buffer m n) copies) (filter (is_buffer m n) pins) (row_now e m n (opened e m n)) (split ∙ rows_listed e m n (opened e m n)) in
-    let copy : filter (is_buffer m n) copies ≡ option_to_list (find (is_buffer m n) copies) = one.left ∙ ap option_to_list (sym (find-filter (is_buffer m n) copies)) in
-    let pin : filter (is_buffer m n) pins ≡ option_to_list (find (is_buffer m n) pins) = one.right ∙ ap option_to_list (sym (find-filter (is_buffer m n) pins)) in
+    let copy : filter (is_buffer m n) copies ≡ option_to_list (find (is_buffer m n) copies) =
+    one.left ∙ ap option_to_list (sym (find-filter (is_buffer m n) copies)) in
+    let pin : filter (is_buffer m n) pins ≡ option_to_list (find (is_buffer m n) pins) = one.right ∙ ap option_to_list (sym (find-filter (is_buffer m n) pins))
+    in
     record {
       agrees = ap (λ l. l ++ option_to_list (find (is_buffer m n) pins)) (sym copy) ∙ (ap (λ l. filter (is_buffer m n) copies ++ l) (sym pin) ∙ split);
       copy = copy;
@@ -147,7 +160,8 @@ first_of_listed (Some b) = refl
 
 -- the row that a look-up by number finds
 pub row_law : (rows : Rows) (e : List Event) (m n : ℕ) → Stands rows e → row_of m n rows ≡ row_now e m n (opened e m n)
-row_law rows e m n stands = find-filter (is_buffer m n) rows.lent ∙ (ap first (stands m n ∙ rows_listed e m n (opened e m n)) ∙ first_of_listed (row_now e m n (opened e m n)))
+row_law rows e m n stands =
+    find-filter (is_buffer m n) rows.lent ∙ (ap first (stands m n ∙ rows_listed e m n (opened e m n)) ∙ first_of_listed (row_now e m n (opened e m n)))
 
 -- ---- one more event
 
@@ -182,8 +196,10 @@ pub closed_law : (rows : Rows) (e : List Event) (m n : ℕ) → Stands rows e �
 closed_law rows e m n stands none = not_open e m n (opened e m n) (sym (stands m n) ∙ none)
 
 key_by : (e older : List Event) (t k : ℕ) (copies pins news others : List Buffer) → ((m n : ℕ) → Tells older m n copies pins)
-    → ((m n : ℕ) → filter (is_buffer m n) news ≡ option_to_list (find (is_buffer m n) news)) → ((m n : ℕ) → filter (is_buffer m n) others ≡ option_to_list (find (is_buffer m n) others))
-    → ((m n : ℕ) → is_same m n t k ≡ false → (find (is_buffer m n) news ≡ find (is_buffer m n) copies) × (find (is_buffer m n) others ≡ find (is_buffer m n) pins))
+    → ((m n : ℕ) → filter (is_buffer m n) news ≡ option_to_list (find (is_buffer m n) news))
+    → ((m n : ℕ) → filter (is_buffer m n) others ≡ option_to_list (find (is_buffer m n) others))
+    → ((m n : ℕ) → is_same m n t k ≡ false
+    → (find (is_buffer m n) news ≡ find (is_buffer m n) copies) × (find (is_buffer m n) others ≡ find (is_buffer m n) pins))
     → ((m n : ℕ) → is_same m n t k ≡ false → rows_of e m n (opened e m n) ≡ rows_of older m n (opened older m n))
     → Agrees e t k (find (is_buffer t k) news) (find (is_buffer t k) others)
     → (m n : ℕ) (b : Bool) → is_same m n t k ≡ b → Tells e m n news others
@@ -198,8 +214,10 @@ key_by e older t k copies pins news others told left right same apart here m n f
 
 -- each key of the new maps agrees with the new event, where the key of the event does, and the others have what they had
 pub each_key : (e older : List Event) (t k : ℕ) (copies pins news others : List Buffer) → ((m n : ℕ) → Tells older m n copies pins)
-    → ((m n : ℕ) → filter (is_buffer m n) news ≡ option_to_list (find (is_buffer m n) news)) → ((m n : ℕ) → filter (is_buffer m n) others ≡ option_to_list (find (is_buffer m n) others))
-    → ((m n : ℕ) → is_same m n t k ≡ false → (find (is_buffer m n) news ≡ find (is_buffer m n) copies) × (find (is_buffer m n) others ≡ find (is_buffer m n) pins))
+    → ((m n : ℕ) → filter (is_buffer m n) news ≡ option_to_list (find (is_buffer m n) news))
+    → ((m n : ℕ) → filter (is_buffer m n) others ≡ option_to_list (find (is_buffer m n) others))
+    → ((m n : ℕ) → is_same m n t k ≡ false
+    → (find (is_buffer m n) news ≡ find (is_buffer m n) copies) × (find (is_buffer m n) others ≡ find (is_buffer m n) pins))
     → ((m n : ℕ) → is_same m n t k ≡ false → rows_of e m n (opened e m n) ≡ rows_of older m n (opened older m n))
     → Agrees e t k (find (is_buffer t k) news) (find (is_buffer t k) others)
     → (m n : ℕ) → Tells e m n news others

@@ -25,7 +25,8 @@ pub record ChangedSoFar {K V : Type 0} (change : V → V → Type 0) (olds now :
   pub long : length now ≡ length olds
 
 -- with one value more changed
-one_more : {K V : Type 0} (change : V → V → Type 0) (olds es : List (K × V)) (i : ℕ) (k : K) (v w : V) → ChangedSoFar change olds es i → slice_get es i ≡ Some (k, v) → change v w
+one_more : {K V : Type 0} (change : V → V → Type 0) (olds es : List (K × V)) (i : ℕ) (k : K) (v w : V) → ChangedSoFar change olds es i
+    → slice_get es i ≡ Some (k, v) → change v w
     → ChangedSoFar change olds (slice_set es i (k, w)) (suc i)
 one_more change [] [] i k v w so is changed = cc
 one_more change (old ∷ olds) [] i k v w so is changed = cc
@@ -48,7 +49,8 @@ entry_at seen (seat ∷ seats) zero d within = refl
 entry_at seen (seat ∷ seats) (suc i) d within = entry_at seen seats i d (omega (arith, within))
 
 -- the head's key is another one, where the entry at a place behind it has the key
-other_head : {V : Type 0} (k head : ℕ) (v : V) (es : List (ℕ × V)) (i : ℕ) → IsOnce es → slice_get es i ≡ Some (k, v) → AllByRecursion (λ y. eq_by_cmp nat_cmp head y ≡ false) (keys_of es)
+other_head : {V : Type 0} (k head : ℕ) (v : V) (es : List (ℕ × V)) (i : ℕ) → IsOnce es → slice_get es i ≡ Some (k, v)
+    → AllByRecursion (λ y. eq_by_cmp nat_cmp head y ≡ false) (keys_of es)
     → is_at (nat_cmp k) head ≡ false
 other_head k head v [] i once is apart = cc
 other_head k head v (e ∷ es) zero once is apart =
@@ -58,7 +60,8 @@ other_head k head v (e ∷ es) zero once is apart =
 other_head k head v (e ∷ es) (suc i) once is apart = other_head k head v es i (IsDistinct-tail (eq_by_cmp nat_cmp) e.0 (keys_of es) once) is apart.1
 
 -- what is written by the key is written at its place
-set_by_key : {V : Type 0} (es : List (ℕ × V)) (i k : ℕ) (v w : V) → IsOnce es → slice_get es i ≡ Some (k, v) → set_value (is_at (nat_cmp k)) es w ≡ slice_set es i (k, w)
+set_by_key : {V : Type 0} (es : List (ℕ × V)) (i k : ℕ) (v w : V) → IsOnce es → slice_get es i ≡ Some (k, v)
+    → set_value (is_at (nat_cmp k)) es w ≡ slice_set es i (k, w)
 set_by_key [] i k v w once is = cc
 set_by_key (e ∷ es) zero k v w once is =
     let same : e.0 ≡ k = ap (λ p. p.0) (same_Some _ _ is) in
@@ -88,7 +91,8 @@ pub found_none : {V : Type 0} (es : List (ℕ × V)) (i k : ℕ) (v : V) → IsO
 found_none es i k v once is none = some_none (sym (found_at es i k v once is) ∙ none)
 
 -- one entry more is changed
-pub changed_more : {V : Type 0} (change : V → V → Type 0) (olds es news : List (ℕ × V)) (i k : ℕ) (v w : V) → ChangedSoFar change olds es i → IsOnce es → slice_get es i ≡ Some (k, v) → change v w
+pub changed_more : {V : Type 0} (change : V → V → Type 0) (olds es news : List (ℕ × V)) (i k : ℕ) (v w : V) → ChangedSoFar change olds es i → IsOnce es
+    → slice_get es i ≡ Some (k, v) → change v w
     → news ≡ set_value (is_at (nat_cmp k)) es w → ChangedSoFar change olds news (i + 1)
 changed_more {V} change olds es news i k v w so once is changed set =
     subst (λ (l : List (ℕ × V)). ChangedSoFar change olds l (i + 1)) (sym (set ∙ set_by_key es i k v w once is))
@@ -108,7 +112,8 @@ pub changed_none : {V : Type 0} (change : V → V → Type 0) (olds es news : Li
 changed_none change olds es news i k v so once is changed same =
     changed_more change olds es news i k v v so once is changed (same ∙ sym (set_value_same (is_at (nat_cmp k)) es v (found_at es i k v once is)))
 
-pub all_changed : {K V : Type 0} (change : V → V → Type 0) (olds now : List (K × V)) (i : ℕ) → ChangedSoFar change olds now i → length olds ≤ i → EachChanged change olds now
+pub all_changed : {K V : Type 0} (change : V → V → Type 0) (olds now : List (K × V)) (i : ℕ) → ChangedSoFar change olds now i → length olds ≤ i
+    → EachChanged change olds now
 all_changed {K} {V} change olds now i so reached =
     let P : List (K × V) → Type 0 = λ l. EachChanged change l now in
     let Q : List (K × V) → Type 0 = λ l. EachChanged change (take i olds) l in
@@ -131,23 +136,27 @@ unless_met test t met cleared is = subst (λ b. IsCleared test t (if b then Clea
 
 -- ---- the entries of all tables
 
-each_entry : {V : Type 0} (change : V → V → Type 0) (old new : ℕ) (es news : List (ℕ × V)) → new ≡ old → EachChanged change es news → EachChanged change (entries old es) (entries new news)
+each_entry : {V : Type 0} (change : V → V → Type 0) (old new : ℕ) (es news : List (ℕ × V)) → new ≡ old → EachChanged change es news
+    → EachChanged change (entries old es) (entries new news)
 each_entry change old new [] [] same changed = refl
 each_entry change old new [] (e ∷ news) same changed = cc
 each_entry change old new (e ∷ es) [] same changed = absurd changed
 each_entry change old new (e ∷ es) (f ∷ news) same changed = ((rw (same, changed.0.0) refl, changed.0.1), each_entry change old new es news same changed.1)
 
-each_append : {K V : Type 0} (change : V → V → Type 0) (xs us ys vs : List (K × V)) → EachChanged change xs us → EachChanged change ys vs → EachChanged change (xs ++ ys) (us ++ vs)
+each_append : {K V : Type 0} (change : V → V → Type 0) (xs us ys vs : List (K × V)) → EachChanged change xs us → EachChanged change ys vs
+    → EachChanged change (xs ++ ys) (us ++ vs)
 each_append change [] [] ys vs changed later = later
 each_append change [] (u ∷ us) ys vs changed later = cc
 each_append change (x ∷ xs) [] ys vs changed later = absurd changed
 each_append change (x ∷ xs) (u ∷ us) ys vs changed later = (changed.0, each_append change xs us ys vs changed.1 later)
 
 -- what each table says of its entries holds of all
-pub each_named : {V : Type 0} (change : V → V → Type 0) (tables news : List (ℕ × List (ℕ × V))) → EachChanged (EachChanged change) tables news → EachChanged change (named tables) (named news)
+pub each_named : {V : Type 0} (change : V → V → Type 0) (tables news : List (ℕ × List (ℕ × V))) → EachChanged (EachChanged change) tables news
+    → EachChanged change (named tables) (named news)
 each_named change [] [] changed = refl
 each_named change [] (new ∷ news) changed = cc
 each_named change (table ∷ tables) [] changed = absurd changed
 each_named change (table ∷ tables) (new ∷ news) changed =
-    each_append change (entries table.0 table.1) (entries new.0 new.1) (named tables) (named news) (each_entry change table.0 new.0 table.1 new.1 changed.0.0 changed.0.1)
+    each_append change (entries table.0 table.1) (entries new.0 new.1) (named tables) (named news)
+    (each_entry change table.0 new.0 table.1 new.1 changed.0.0 changed.0.1)
     (each_named change tables news changed.1)

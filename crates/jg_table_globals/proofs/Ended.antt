@@ -35,19 +35,23 @@ was_given : (later e : List Event) (m n : ℕ) → list_any (makes m n) e ≡ tr
 was_given [] e m n made = made
 was_given (ev ∷ later) e m n made = rw (was_given later e m n made) (elim (makes m n ev) as (λ b. (b || true) ≡ true) [ true ↦ refl | false ↦ refl ])
 
-strong_ended : (later e : List Event) (m n : ℕ) → NumbersRise (later ++ e) → list_any (makes m n) e ≡ true → strong e m n ≡ None → strong (later ++ e) m n ≡ None
+strong_ended : (later e : List Event) (m n : ℕ) → NumbersRise (later ++ e) → list_any (makes m n) e ≡ true → strong e m n ≡ None
+    → strong (later ++ e) m n ≡ None
 strong_ended [] e m n rise made none = none
-strong_ended (MakeStrong k i o ∷ later) e m n rise made none = rw (given_below (later ++ e) m n k i (was_given later e m n made) rise.0) (strong_ended later e m n rise.1 made none)
+strong_ended (MakeStrong k i o ∷ later) e m n rise made none =
+    rw (given_below (later ++ e) m n k i (was_given later e m n made) rise.0) (strong_ended later e m n rise.1 made none)
 strong_ended (MakeWeak k i o ∷ later) e m n rise made none = strong_ended later e m n rise.1 made none
 strong_ended (DeleteStrong k i ∷ later) e m n rise made none =
-    rw (strong_ended later e m n rise made none) (elim (is_same m n k i) as (λ b. (if◌then◌else◌ {A = Option ℕ} b None None) ≡ None) [ true ↦ refl | false ↦ refl ])
+    rw (strong_ended later e m n rise made none)
+    (elim (is_same m n k i) as (λ b. (if◌then◌else◌ {A = Option ℕ} b None None) ≡ None) [ true ↦ refl | false ↦ refl ])
 strong_ended (DeleteWeak k i ∷ later) e m n rise made none = strong_ended later e m n rise made none
 strong_ended (Clear o ∷ later) e m n rise made none = strong_ended later e m n rise made none
 
 weak_ended : (later e : List Event) (m n : ℕ) → NumbersRise (later ++ e) → list_any (makes m n) e ≡ true → weak e m n ≡ None → weak (later ++ e) m n ≡ None
 weak_ended [] e m n rise made none = none
 weak_ended (MakeStrong k i o ∷ later) e m n rise made none = weak_ended later e m n rise.1 made none
-weak_ended (MakeWeak k i o ∷ later) e m n rise made none = rw (given_below (later ++ e) m n k i (was_given later e m n made) rise.0) (weak_ended later e m n rise.1 made none)
+weak_ended (MakeWeak k i o ∷ later) e m n rise made none =
+    rw (given_below (later ++ e) m n k i (was_given later e m n made) rise.0) (weak_ended later e m n rise.1 made none)
 weak_ended (DeleteStrong k i ∷ later) e m n rise made none = weak_ended later e m n rise made none
 weak_ended (DeleteWeak k i ∷ later) e m n rise made none = rw (weak_ended later e m n rise made none)
     (elim (is_same m n k i) as (λ b. (if◌then◌else◌ {A = Option ℕ} b None None) ≡ None) [ true ↦ refl | false ↦ refl ])
@@ -97,16 +101,20 @@ clear_seen : (later e : List Event) (m n o : ℕ) → NumbersRise (later ++ e) �
     → list_any (clears o) (after_making m n (later ++ e)) ≡ true
 clear_seen [] e m n o rise made seen = seen
 clear_seen (MakeStrong k i p ∷ later) e m n o rise made seen = clear_seen later e m n o rise.1 made seen
-clear_seen (MakeWeak k i p ∷ later) e m n o rise made seen = rw (given_below (later ++ e) m n k i (was_given later e m n made) rise.0) (clear_seen later e m n o rise.1 made seen)
+clear_seen (MakeWeak k i p ∷ later) e m n o rise made seen =
+    rw (given_below (later ++ e) m n k i (was_given later e m n made) rise.0) (clear_seen later e m n o rise.1 made seen)
 clear_seen (DeleteStrong k i ∷ later) e m n o rise made seen = clear_seen later e m n o rise made seen
 clear_seen (DeleteWeak k i ∷ later) e m n o rise made seen = clear_seen later e m n o rise made seen
-clear_seen (Clear p ∷ later) e m n o rise made seen = or_right (p == o) (list_any (clears o) (after_making m n (later ++ e))) (clear_seen later e m n o rise made seen)
+clear_seen (Clear p ∷ later) e m n o rise made seen =
+    or_right (p == o) (list_any (clears o) (after_making m n (later ++ e))) (clear_seen later e m n o rise made seen)
 
-was_cleared : (later : List Event) (found : Option ℕ) → unless_cleared later found ≡ Some Cleared → (o : ℕ) × ((found ≡ Some o) × (list_any (clears o) later ≡ true))
+was_cleared : (later : List Event) (found : Option ℕ) → unless_cleared later found ≡ Some Cleared
+    → (o : ℕ) × ((found ≡ Some o) × (list_any (clears o) later ≡ true))
 was_cleared later None is = cc
 was_cleared later (Some o) is = (o, (refl, cleared_if o (list_any (clears o) later) is))
 
-not_live : (later : List Event) (p o : ℕ) (found : Option ℕ) → ((q : ℕ) → found ≡ Some q → q ≡ p) → list_any (clears p) later ≡ true → unless_cleared later found ≡ Some (Object (record { 0 = o })) → ⊥
+not_live : (later : List Event) (p o : ℕ) (found : Option ℕ) → ((q : ℕ) → found ≡ Some q → q ≡ p) → list_any (clears p) later ≡ true
+    → unless_cleared later found ≡ Some (Object (record { 0 = o })) → ⊥
 not_live later p o None same seen live = cc
 not_live later p o (Some q) same seen live =
     let is : q ≡ p = same q refl in
@@ -114,7 +122,8 @@ not_live later p o (Some q) same seen live =
     let now : Some Cleared ≡ Some (Object (record { 0 = o })) = sym (ap (λ b. Some (if b then Cleared else Object (record { 0 = q }))) gone) ∙ live in
     cc
 
-pub never_again : (later e : List Event) (m n o : ℕ) → NumbersRise (later ++ e) → weak_target e m n ≡ Some Cleared → ¬ (weak_target (later ++ e) m n ≡ Some (Object (record { 0 = o })))
+pub never_again : (later e : List Event) (m n o : ℕ) → NumbersRise (later ++ e) → weak_target e m n ≡ Some Cleared
+    → ¬ (weak_target (later ++ e) m n ≡ Some (Object (record { 0 = o })))
 never_again later e m n o rise cleared =
     let was = was_cleared (after_making m n e) (weak e m n) cleared in
     let made = was_weak e m n was.0 was.1.0 in
@@ -156,7 +165,8 @@ weak_of_member : (m n : ℕ) (row : Weak) (found : Option Target) → Member row
 weak_of_member m n row None there = absurd there
 weak_of_member m n row (Some t) there = elim there [ inl same ↦ ap (λ r. Some r.target) (sym same) | inr other ↦ absurd other ]
 
-strong_row_below : (rows : Rows) (e : List Event) (m n : ℕ) → Stands rows e → IsMadeBelow m n e → (row : Strong) → Member row rows.strong → row.maker ≡ m → row.n < n
+strong_row_below : (rows : Rows) (e : List Event) (m n : ℕ) → Stands rows e → IsMadeBelow m n e → (row : Strong) → Member row rows.strong → row.maker ≡ m
+    → row.n < n
 strong_row_below rows e m n stands below row there is =
     let mine : is_strong row.maker row.n row ≡ true = grind (arith, nat_tests) in
     let kept = member_filter (is_strong row.maker row.n) row rows.strong there mine in

@@ -27,7 +27,8 @@ pub no_value : {X Y : Type 0} (f : X → Y) (found : Option X) → option_map f 
 no_value f None none = refl
 no_value f (Some x) none = cc
 
-object_of_first : (m n : ℕ) (found : Option ObjId) (was : Option ℕ) → option_map (λ o. strong_seen ((m, n), o)) found ≡ first (strong_rows m n was) → option_map (λ o. o.0) found ≡ was
+object_of_first : (m n : ℕ) (found : Option ObjId) (was : Option ℕ) → option_map (λ o. strong_seen ((m, n), o)) found ≡ first (strong_rows m n was)
+    → option_map (λ o. o.0) found ≡ was
 object_of_first m n None None is = refl
 object_of_first m n None (Some p) is = cc
 object_of_first m n (Some o) None is = cc
@@ -37,7 +38,8 @@ pub get_strong_law : (rows : Rows) (e : List Event) (es : List (Name × ObjId)) 
     → option_map (λ o. o.0) (lookup (same_name (m, n)) es) ≡ strong e m n
 get_strong_law rows e es m n seen stands =
     object_of_first m n (lookup (same_name (m, n)) es) (strong e m n)
-    (sym (first_named strong_seen (is_strong m n) (m, n) (strong_tests m n) es) ∙ ap (λ l. first (filter (is_strong m n) l)) (sym seen) ∙ ap first (stands.strong m n))
+    (sym (first_named strong_seen (is_strong m n) (m, n) (strong_tests m n) es) ∙ ap (λ l. first (filter (is_strong m n) l)) (sym seen)
+    ∙ ap first (stands.strong m n))
 
 target_of_first : (m n : ℕ) (found was : Option Target) → option_map (λ t. weak_seen ((m, n), t)) found ≡ first (weak_rows m n was) → found ≡ was
 target_of_first m n None None is = refl
@@ -52,13 +54,15 @@ get_weak_law rows e es m n seen stands =
     (sym (first_named weak_seen (is_weak m n) (m, n) (weak_tests m n) es) ∙ ap (λ l. first (filter (is_weak m n) l)) (sym seen) ∙ ap first (stands.weak m n))
 
 -- a reference in being was made
-made_here : (all e : List Event) (m n o k i p : ℕ) (b : Bool) → is_same m n k i ≡ b → strong all m n ≡ Some o → (strong e m n ≡ Some o → list_any (made_and_held all o) e ≡ true)
+made_here : (all e : List Event) (m n o k i p : ℕ) (b : Bool) → is_same m n k i ≡ b → strong all m n ≡ Some o
+    → (strong e m n ≡ Some o → list_any (made_and_held all o) e ≡ true)
     → (if b then Some p else strong e m n) ≡ Some o → (is_now o (strong all k i) || list_any (made_and_held all o) e) ≡ true
 made_here all e m n o k i p true is now older here =
     let maker : k ≡ m = grind (arith, nat_tests) in
     let number : i ≡ n = grind (arith, nat_tests) in
     rw (maker, number, now) (grind (arith, nat_tests))
-made_here all e m n o k i p false is now older here = rw (older here) (elim (is_now o (strong all k i)) as (λ b. (b || true) ≡ true) [ true ↦ refl | false ↦ refl ])
+made_here all e m n o k i p false is now older here =
+    rw (older here) (elim (is_now o (strong all k i)) as (λ b. (b || true) ≡ true) [ true ↦ refl | false ↦ refl ])
 
 deleted_here : (e : List Event) (m n o : ℕ) (b : Bool) → if◌then◌else◌ {A = Option ℕ} b None (strong e m n) ≡ Some o → strong e m n ≡ Some o
 deleted_here e m n o true here = cc
@@ -78,7 +82,8 @@ now_is o (Some p) is =
     let same : p ≡ o = eqb-true p o is in
     ap Some same
 
-held_here : (all e : List Event) (o k i : ℕ) (b : Bool) → is_now o (strong all k i) ≡ b → (list_any (made_and_held all o) e ≡ true → (m : ℕ) × ((n : ℕ) × (strong all m n ≡ Some o)))
+held_here : (all e : List Event) (o k i : ℕ) (b : Bool) → is_now o (strong all k i) ≡ b
+    → (list_any (made_and_held all o) e ≡ true → (m : ℕ) × ((n : ℕ) × (strong all m n ≡ Some o)))
     → (b || list_any (made_and_held all o) e) ≡ true → (m : ℕ) × ((n : ℕ) × (strong all m n ≡ Some o))
 held_here all e o k i true is older some = (k, (i, now_is o (strong all k i) is))
 held_here all e o k i false is older some = older some
@@ -103,7 +108,8 @@ any_of_strong m n o (Some p) is =
     grind (arith, nat_tests)
 
 -- a row of the object is that of a reference in being, which names it
-row_named : (rows : Rows) (e : List Event) (o : ℕ) (row : Strong) → Stands rows e → Member row rows.strong → (row.object == o) ≡ true → strong e row.maker row.n ≡ Some o
+row_named : (rows : Rows) (e : List Event) (o : ℕ) (row : Strong) → Stands rows e → Member row rows.strong → (row.object == o) ≡ true
+    → strong e row.maker row.n ≡ Some o
 row_named rows e o row stands there is =
     let mine : is_strong row.maker row.n row ≡ true = grind (arith, nat_tests) in
     let P : List Strong → Type 0 = λ l. Member row l in
@@ -123,7 +129,8 @@ held_row rows e o stands is =
     let here = any_of_strong found.0 found.1.0 o (strong e found.0 found.1.0) found.1.1 in
     any_of_filter (λ row. row.object == o) (is_strong found.0 found.1.0) rows.strong (rw (stands.strong found.0 found.1.0) here)
 
-pub holds_law : (rows : Rows) (e : List Event) (es : List (Name × ObjId)) (o : ℕ) → rows.strong ≡ map strong_seen es → Stands rows e → list_any (λ entry. entry.1.0 == o) es ≡ holds_object e o
+pub holds_law : (rows : Rows) (e : List Event) (es : List (Name × ObjId)) (o : ℕ) → rows.strong ≡ map strong_seen es → Stands rows e
+    → list_any (λ entry. entry.1.0 == o) es ≡ holds_object e o
 holds_law rows e es o seen stands =
     list_any-map strong_seen (λ entry. entry.1.0 == o) (λ row. row.object == o) (λ entry. refl) es
     ∙ (ap (list_any (λ row. row.object == o)) (sym seen)

@@ -64,7 +64,8 @@ strong_target_since e m n o since = rw since.made (strong_kept since.later since
 
 -- ---- weak references
 
-weak_later : (ev : Event) (e : List Event) (m n o : ℕ) (b : Bool) → about_weak m n ev ≡ false → WeakSince e m n o b → WeakSince (ev ∷ e) m n o (clears o ev || b)
+weak_later : (ev : Event) (e : List Event) (m n o : ℕ) (b : Bool) → about_weak m n ev ≡ false → WeakSince e m n o b
+    → WeakSince (ev ∷ e) m n o (clears o ev || b)
 weak_later ev e m n o b other since = record {
   later = ev ∷ since.later;
   before = since.before;
@@ -78,7 +79,8 @@ abbrev Known : List Event → ℕ → ℕ → ℕ → Type 0
 Known e m n o = WeakSince e m n o (list_any (clears o) (after_making m n e))
 
 weak_made : (e : List Event) (m n o k i p : ℕ) (b : Bool) → is_same m n k i ≡ b → (weak e m n ≡ Some o → Known e m n o)
-    → (if b then Some p else weak e m n) ≡ Some o → WeakSince (MakeWeak k i p ∷ e) m n o (list_any (clears o) (if b then [] else MakeWeak k i p ∷ after_making m n e))
+    → (if b then Some p else weak e m n) ≡ Some o
+    → WeakSince (MakeWeak k i p ∷ e) m n o (list_any (clears o) (if b then [] else MakeWeak k i p ∷ after_making m n e))
 weak_made e m n o k i p true is older now =
     let maker : k ≡ m = grind (arith, nat_tests) in
     let number : i ≡ n = grind (arith, nat_tests) in
@@ -112,7 +114,8 @@ pub cleared_if : (p : ℕ) (b : Bool) → Some (if b then Cleared else Object (r
 cleared_if p true is = refl
 cleared_if p false is = cc
 
-live_found : (e : List Event) (m n o : ℕ) (found : Option ℕ) → weak e m n ≡ found → unless_cleared (after_making m n e) found ≡ Some (Object (record { 0 = o })) → WeakSince e m n o false
+live_found : (e : List Event) (m n o : ℕ) (found : Option ℕ) → weak e m n ≡ found → unless_cleared (after_making m n e) found ≡ Some (Object (record { 0 = o }))
+    → WeakSince e m n o false
 live_found e m n o None is now = cc
 live_found e m n o (Some p) is now =
     let known = weak_since e m n p is in
@@ -124,7 +127,8 @@ live_found e m n o (Some p) is now =
 pub live_since : (e : List Event) (m n o : ℕ) → weak_target e m n ≡ Some (Object (record { 0 = o })) → WeakSince e m n o false
 live_since e m n o now = live_found e m n o (weak e m n) refl now
 
-cleared_found : (e : List Event) (m n : ℕ) (found : Option ℕ) → weak e m n ≡ found → unless_cleared (after_making m n e) found ≡ Some Cleared → (o : ℕ) × WeakSince e m n o true
+cleared_found : (e : List Event) (m n : ℕ) (found : Option ℕ) → weak e m n ≡ found → unless_cleared (after_making m n e) found ≡ Some Cleared
+    → (o : ℕ) × WeakSince e m n o true
 cleared_found e m n None is now = cc
 cleared_found e m n (Some p) is now =
     let known = weak_since e m n p is in
@@ -160,6 +164,7 @@ after_kept (ev ∷ later) before m n o kept =
     let parts = or_parts (about_weak m n ev) (list_any (about_weak m n) later) kept in
     after_other ev (later ++ MakeWeak m n o ∷ before) m n parts.0 ∙ ap (λ l. ev ∷ l) (after_kept later before m n o parts.1)
 
-pub weak_target_since : (e : List Event) (m n o : ℕ) (b : Bool) → WeakSince e m n o b → weak_target e m n ≡ Some (if b then Cleared else Object (record { 0 = o }))
+pub weak_target_since : (e : List Event) (m n o : ℕ) (b : Bool) → WeakSince e m n o b
+    → weak_target e m n ≡ Some (if b then Cleared else Object (record { 0 = o }))
 weak_target_since e m n o b since =
     rw (since.made, weak_kept since.later since.before m n o since.kept, after_kept since.later since.before m n o since.kept, since.cleared) refl

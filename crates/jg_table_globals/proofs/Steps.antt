@@ -20,12 +20,14 @@ use Rattle.jg_lists.proofs.Named.{first_named, once_named, rows_named}
 use Rattle.jg_table_globals.proofs.Lookups.{strong_tests, weak_tests, no_value, get_strong_law, get_weak_law}
 
 -- what an event that isn't about weak references does to what they name: nothing
-quiet : (maker n : ℕ) (later : List Event) (ev : Event) (found : Option ℕ) → ((o : ℕ) → clears o ev ≡ false) → unless_cleared (ev ∷ later) found ≡ unless_cleared later found
+quiet : (maker n : ℕ) (later : List Event) (ev : Event) (found : Option ℕ) → ((o : ℕ) → clears o ev ≡ false)
+    → unless_cleared (ev ∷ later) found ≡ unless_cleared later found
 quiet maker n later ev None none = refl
 quiet maker n later ev (Some o) none = rw (none o) refl
 
 -- the rows of one name once an entry is added, which had none where the entry has the name
-rows_added : {X Y : Type 0} (f : X → Y) (p : Y → Bool) (front back : List X) (x : X) (b : Bool) → p (f x) ≡ b → (b ≡ true → filter p (map f (front ++ back)) ≡ [])
+rows_added : {X Y : Type 0} (f : X → Y) (p : Y → Bool) (front back : List X) (x : X) (b : Bool) → p (f x) ≡ b
+    → (b ≡ true → filter p (map f (front ++ back)) ≡ [])
     → filter p (map f (front ++ x ∷ back)) ≡ (if b then f x ∷ [] else filter p (map f (front ++ back)))
 rows_added f p [] back x true is none = rw (is, none refl) refl
 rows_added f p [] back x false is none = rw is refl
@@ -33,7 +35,8 @@ rows_added f p (y ∷ front) back x b is none = by f p y front back x b (p (f y)
   where
     by : {X Y : Type 0} (f : X → Y) (p : Y → Bool) (y : X) (front back : List X) (x : X) (b c : Bool)
         → (b ≡ true → (if c then f y ∷ filter p (map f (front ++ back)) else filter p (map f (front ++ back))) ≡ [])
-        → ((b ≡ true → filter p (map f (front ++ back)) ≡ []) → filter p (map f (front ++ x ∷ back)) ≡ (if b then f x ∷ [] else filter p (map f (front ++ back))))
+        → ((b ≡ true → filter p (map f (front ++ back)) ≡ [])
+        → filter p (map f (front ++ x ∷ back)) ≡ (if b then f x ∷ [] else filter p (map f (front ++ back))))
         → (if c then f y ∷ filter p (map f (front ++ x ∷ back)) else filter p (map f (front ++ x ∷ back)))
         ≡ (if b then f x ∷ [] else (if c then f y ∷ filter p (map f (front ++ back)) else filter p (map f (front ++ back))))
     by f p y front back x true true none later = let never = none refl in cc
@@ -56,21 +59,24 @@ weak_new m n k i t true rows was is stands =
     rw (maker, number) refl
 weak_new m n k i t false rows was is stands = stands
 
-strong_above : (k i : ℕ) (rows : List Strong) → AllByRecursion (λ row. row.maker ≡ k → row.n < i) rows → (m n : ℕ) → is_same m n k i ≡ true → filter (is_strong m n) rows ≡ []
+strong_above : (k i : ℕ) (rows : List Strong) → AllByRecursion (λ row. row.maker ≡ k → row.n < i) rows → (m n : ℕ) → is_same m n k i ≡ true
+    → filter (is_strong m n) rows ≡ []
 strong_above k i [] above m n is = refl
 strong_above k i (row ∷ rows) above m n is =
     let tail = strong_above k i rows above.1 m n is in
     let below = above.0 in
     grind (arith, nat_tests, tail, below)
 
-weak_above : (k i : ℕ) (rows : List Weak) → AllByRecursion (λ row. row.maker ≡ k → row.n < i) rows → (m n : ℕ) → is_same m n k i ≡ true → filter (is_weak m n) rows ≡ []
+weak_above : (k i : ℕ) (rows : List Weak) → AllByRecursion (λ row. row.maker ≡ k → row.n < i) rows → (m n : ℕ) → is_same m n k i ≡ true
+    → filter (is_weak m n) rows ≡ []
 weak_above k i [] above m n is = refl
 weak_above k i (row ∷ rows) above m n is =
     let tail = weak_above k i rows above.1 m n is in
     let below = above.0 in
     grind (arith, nat_tests, tail, below)
 
-pub make_strong_law : (rows : Rows) (e : List Event) (k i : ℕ) (o : ObjId) (es news : List (Name × ObjId)) → rows.strong ≡ map strong_seen es → Adds (k, i) o es news → IsAbove k i rows → Stands rows e
+pub make_strong_law : (rows : Rows) (e : List Event) (k i : ℕ) (o : ObjId) (es news : List (Name × ObjId)) → rows.strong ≡ map strong_seen es
+    → Adds (k, i) o es news → IsAbove k i rows → Stands rows e
     → Stands (record { strong = map strong_seen news; weak = rows.weak }) (MakeStrong k i o.0 ∷ e)
 make_strong_law rows e k i o es news seen adds above stands =
     let same : rows.strong ≡ map strong_seen (adds.front ++ adds.back) = seen ∙ ap (map strong_seen) adds.was in
@@ -86,7 +92,8 @@ make_strong_law rows e k i o es news seen adds above stands =
 
 -- what a weak reference names once another or itself is made
 weak_target-make : (m n k i o : ℕ) (e : List Event) (b : Bool)
-    → unless_cleared (if b then [] else MakeWeak k i o ∷ after_making m n e) (if b then Some o else weak e m n) ≡ (if b then Some (Object (record { 0 = o })) else weak_target e m n)
+    → unless_cleared (if b then [] else MakeWeak k i o ∷ after_making m n e) (if b then Some o else weak e m n)
+    ≡ (if b then Some (Object (record { 0 = o })) else weak_target e m n)
 weak_target-make m n k i o e true = refl
 weak_target-make m n k i o e false = quiet m n (after_making m n e) (MakeWeak k i o) (weak e m n) (λ p. refl)
 
@@ -101,7 +108,8 @@ make_weak_law rows e k i o es news seen adds above stands =
           (ap (λ (l : List (Name × Target)). filter (is_weak m n) (map weak_seen l)) adds.now
           ∙ rows_added weak_seen (is_weak m n) adds.front adds.back ((k, i), Object (record { 0 = o })) (is_same m n k i) refl
           (λ is. ap (filter (is_weak m n)) (sym same) ∙ weak_above k i rows.weak (recursion_from_All _ _ above.weak) m n is)
-          ∙ weak_new m n k i (Object (record { 0 = o })) (is_same m n k i) (filter (is_weak m n) (map weak_seen (adds.front ++ adds.back))) (weak_target e m n) refl
+          ∙ weak_new m n k i (Object (record { 0 = o })) (is_same m n k i) (filter (is_weak m n) (map weak_seen (adds.front ++ adds.back)))
+          (weak_target e m n) refl
           (ap (filter (is_weak m n)) (sym same) ∙ stands.weak m n));
     }
 
@@ -132,8 +140,10 @@ pub delete_strong_law : (rows : Rows) (e : List Event) (k i : ℕ) (es news : Li
 delete_strong_law rows e k i es news seen drops once stands = record {
   strong = λ m n.
       let was : filter (is_strong m n) (map strong_seen es) ≡ strong_rows m n (strong e m n) = ap (filter (is_strong m n)) (sym seen) ∙ stands.strong m n in
-      let few : length (filter (is_strong m n) (map strong_seen es)) ≤ 1 = subst (λ (l : List Strong). length l ≤ 1) (sym was) (few_strong m n (strong e m n)) in
-      rows_named strong_seen (is_strong m n) (m, n) (strong_tests m n) news (once (m, n) (once_named strong_seen (is_strong m n) (m, n) (strong_tests m n) es few))
+      let few : length (filter (is_strong m n) (map strong_seen es)) ≤ 1 = subst (λ (l : List Strong). length l ≤ 1) (sym was) (few_strong m n (strong e m n))
+      in
+      rows_named strong_seen (is_strong m n) (m, n) (strong_tests m n) news
+      (once (m, n) (once_named strong_seen (is_strong m n) (m, n) (strong_tests m n) es few))
       ∙ ap (λ found. option_to_list (option_map (λ o. strong_seen ((m, n), o)) found)) (drops (m, n))
       ∙ strong_left m n (is_same m n k i) (lookup (same_name (m, n)) es) (strong e m n) (get_strong_law rows e es m n seen stands);
   weak = λ m n. stands.weak m n ∙ ap (weak_rows m n) (sym (quiet m n (after_making m n e) (DeleteStrong k i) (weak e m n) (λ p. refl)));
@@ -163,7 +173,8 @@ pub strong_absent : (k i : ℕ) (es : List (Name × ObjId)) → All (λ row. row
 strong_absent k i es above =
     let own : is_same k i k i ≡ true = grind (arith, nat_tests) in
     let none = strong_above k i (map strong_seen es) (recursion_from_All _ _ above) k i own in
-    no_value (λ o. strong_seen ((k, i), o)) (lookup (same_name (k, i)) es) (sym (first_named strong_seen (is_strong k i) (k, i) (strong_tests k i) es) ∙ ap first none)
+    no_value (λ o. strong_seen ((k, i), o)) (lookup (same_name (k, i)) es)
+    (sym (first_named strong_seen (is_strong k i) (k, i) (strong_tests k i) es) ∙ ap first none)
 
 pub weak_absent : (k i : ℕ) (es : List (Name × Target)) → All (λ row. row.maker ≡ k → row.n < i) (map weak_seen es) → lookup (same_name (k, i)) es ≡ None
 weak_absent k i es above =
@@ -182,7 +193,8 @@ none_cleared None = refl
 none_cleared (Some Cleared) = refl
 none_cleared (Some (Object o)) = refl
 
-clear_some : (p o : ℕ) (a : Bool) → Some (if p == o || a then Cleared else Object (record { 0 = o })) ≡ cleared_by (p ∷ []) (Some (if a then Cleared else Object (record { 0 = o })))
+clear_some : (p o : ℕ) (a : Bool)
+    → Some (if p == o || a then Cleared else Object (record { 0 = o })) ≡ cleared_by (p ∷ []) (Some (if a then Cleared else Object (record { 0 = o })))
 clear_some p o true = elim (p == o) as (λ b. Some (if b || true then Cleared else Object (record { 0 = o })) ≡ Some Cleared) [ true ↦ refl | false ↦ refl ]
 clear_some p o false = refl
 
@@ -190,7 +202,8 @@ clear_one : (later : List Event) (p : ℕ) (found : Option ℕ) → unless_clear
 clear_one later p None = refl
 clear_one later p (Some o) = clear_some p o (list_any (clears o) later)
 
-clear_object : (p : ℕ) (objects : List ℕ) (o : ObjId) (a : Bool) → cleared_by (p ∷ []) (Some (if a then Cleared else Object o)) ≡ Some (if (p == o.0) || a then Cleared else Object o)
+clear_object : (p : ℕ) (objects : List ℕ) (o : ObjId) (a : Bool)
+    → cleared_by (p ∷ []) (Some (if a then Cleared else Object o)) ≡ Some (if (p == o.0) || a then Cleared else Object o)
 clear_object p objects o true = elim (p == o.0) as (λ b. Some Cleared ≡ Some (if b || true then Cleared else Object o)) [ true ↦ refl | false ↦ refl ]
 clear_object p objects o false = refl
 
@@ -199,11 +212,13 @@ clear_more p objects None = refl
 clear_more p objects (Some Cleared) = refl
 clear_more p objects (Some (Object o)) = clear_object p objects o (list_any (λ q. q == o.0) objects)
 
-pub weak_target-clear : (m n : ℕ) (objects : List ℕ) (e : List Event) → weak_target (map (λ o. Clear o) objects ++ e) m n ≡ cleared_by objects (weak_target e m n)
+pub weak_target-clear : (m n : ℕ) (objects : List ℕ) (e : List Event)
+    → weak_target (map (λ o. Clear o) objects ++ e) m n ≡ cleared_by objects (weak_target e m n)
 weak_target-clear m n [] e = none_cleared (weak_target e m n)
 weak_target-clear m n (o ∷ objects) e =
     let older = map (λ p. Clear p) objects ++ e in
-    clear_one (after_making m n older) o (weak older m n) ∙ (ap (cleared_by (o ∷ [])) (weak_target-clear m n objects e) ∙ clear_more o objects (weak_target e m n))
+    clear_one (after_making m n older) o (weak older m n)
+    ∙ (ap (cleared_by (o ∷ [])) (weak_target-clear m n objects e) ∙ clear_more o objects (weak_target e m n))
 
 pub strong-clear : (m n : ℕ) (objects : List ℕ) (e : List Event) → strong (map (λ o. Clear o) objects ++ e) m n ≡ strong e m n
 strong-clear m n [] e = refl
@@ -211,9 +226,11 @@ strong-clear m n (o ∷ objects) e = strong-clear m n objects e
 
 -- what the test says at the object that a reference names is what the list says
 abbrev Listed : (ObjId → Bool → Type 0) → List ℕ → Option Target → Type 0
-Listed test objects found = (o : ℕ) (answer : Bool) → found ≡ Some (Object (record { 0 = o })) → test (record { 0 = o }) answer → answer ≡ list_any (λ p. p == o) objects
+Listed test objects found = (o : ℕ) (answer : Bool) → found ≡ Some (Object (record { 0 = o })) → test (record { 0 = o }) answer
+    → answer ≡ list_any (λ p. p == o) objects
 
-target_cleared : (test : ObjId → Bool → Type 0) (objects : List ℕ) (t now : Target) → Listed test objects (Some t) → IsCleared test t now → cleared_by objects (Some t) ≡ Some now
+target_cleared : (test : ObjId → Bool → Type 0) (objects : List ℕ) (t now : Target) → Listed test objects (Some t) → IsCleared test t now
+    → cleared_by objects (Some t) ≡ Some now
 target_cleared test objects Cleared now listed cleared = ap Some (sym cleared)
 target_cleared test objects (Object o) now listed cleared =
     let says : cleared.0 ≡ list_any (λ p. p == o.0) objects = listed o.0 cleared.0 refl cleared.1.0 in
@@ -236,7 +253,8 @@ one_cleared test m n objects row new rest rest' (Some t) mine named cleared list
     let names : Some row.1 ≡ Some t = ap head_target stands in
     let same : row.1 ≡ t = cc in
     let own : Listed test objects (Some row.1) = λ o answer is. listed o answer (ap Some (sym same) ∙ is) in
-    let now : cleared_by objects (Some t) ≡ Some new.1 = ap (λ u. cleared_by objects (Some u)) (sym same) ∙ target_cleared test objects row.1 new.1 own cleared in
+    let now : cleared_by objects (Some t) ≡ Some new.1 = ap (λ u. cleared_by objects (Some u)) (sym same) ∙ target_cleared test objects row.1 new.1 own cleared
+    in
     let its_maker : new.0.0 ≡ m = ap (λ k. k.0) named ∙ grind (arith, nat_tests) in
     let its_number : new.0.1 ≡ n = ap (λ k. k.1) named ∙ grind (arith, nat_tests) in
     rw (now, none, its_maker, its_number) refl
@@ -250,7 +268,8 @@ head_cleared test m n objects row new rest rest' found true is named cleared lis
 head_cleared test m n objects row new rest rest' found false is named cleared listed tail stands = tail found listed stands
 
 -- the rows of one weak reference, cleared
-rows_cleared : (test : ObjId → Bool → Type 0) (m n : ℕ) (objects : List ℕ) (olds news : List (Name × Target)) (found : Option Target) → Listed test objects found
+rows_cleared : (test : ObjId → Bool → Type 0) (m n : ℕ) (objects : List ℕ) (olds news : List (Name × Target)) (found : Option Target)
+    → Listed test objects found
     → EachCleared test olds news → filter (is_weak m n) (map weak_seen olds) ≡ weak_rows m n found
     → filter (is_weak m n) (map weak_seen news) ≡ weak_rows m n (cleared_by objects found)
 rows_cleared test m n objects [] news None listed cleared stands = rw cleared refl
@@ -261,13 +280,16 @@ rows_cleared test m n objects (row ∷ olds) (new ∷ news) found listed cleared
     let P : Bool → Type 0 = λ b. (if b then weak_seen new ∷ news_rest else news_rest) ≡ weak_rows m n (cleared_by objects found) in
     let same : is_weak m n (weak_seen new) ≡ is_weak m n (weak_seen row) = rw cleared.0.0 refl in
     subst P (sym same)
-    (head_cleared test m n objects row new (filter (is_weak m n) (map weak_seen olds)) news_rest found (is_weak m n (weak_seen row)) refl cleared.0.0 cleared.0.1 listed
+    (head_cleared test m n objects row new (filter (is_weak m n) (map weak_seen olds)) news_rest found (is_weak m n (weak_seen row)) refl cleared.0.0
+    cleared.0.1 listed
     (λ was own is. rows_cleared test m n objects olds news was own cleared.1 is) stands)
 
-pub clear_law : (test : ObjId → Bool → Type 0) (rows : Rows) (olds news : List (Name × Target)) (e : List Event) (objects : List ℕ) → rows.weak ≡ map weak_seen olds → EachCleared test olds news
+pub clear_law : (test : ObjId → Bool → Type 0) (rows : Rows) (olds news : List (Name × Target)) (e : List Event) (objects : List ℕ)
+    → rows.weak ≡ map weak_seen olds → EachCleared test olds news
     → IsListOf test e objects → Stands rows e
     → Stands (record { strong = rows.strong; weak = map weak_seen news }) (map (λ o. Clear o) objects ++ e)
 clear_law test rows olds news e objects seen cleared listed stands = record {
   strong = λ m n. rw (strong-clear m n objects e) (stands.strong m n);
-  weak = λ m n. rw (weak_target-clear m n objects e) (rows_cleared test m n objects olds news (weak_target e m n) (λ o answer. listed m n o answer) cleared (rw (sym seen) (stands.weak m n)));
+  weak = λ m n. rw (weak_target-clear m n objects e)
+      (rows_cleared test m n objects olds news (weak_target e m n) (λ o answer. listed m n o answer) cleared (rw (sym seen) (stands.weak m n)));
 }

@@ -71,15 +71,19 @@ missed_of : (there marks : List Bool) (first end : ℕ) → first ≤ end
     → list_any (λ i. get_or (take (end - first) (drop first there)) i false && not (get_or marks (first + i) false)) (range_with_len 0 (end - first))
     ≡ list_any (unheld_in there marks) (range_with_len first (end - first))
 missed_of there marks first end order =
-    any_agree (λ i. get_or (take (end - first) (drop first there)) i false && not (get_or marks (first + i) false)) (λ i. unheld_in there marks (first + i)) 0 (end - first)
-    (λ i h. ap (λ b. b && not (get_or marks (first + i) false)) (get_or-take (end - first) (drop first there) i false (omega (arith, h)) ∙ get_or-drop first there i false))
+    any_agree (λ i. get_or (take (end - first) (drop first there)) i false && not (get_or marks (first + i) false)) (λ i. unheld_in there marks (first + i)) 0
+    (end - first)
+    (λ i h. ap (λ b. b && not (get_or marks (first + i) false))
+    (get_or-take (end - first) (drop first there) i false (omega (arith, h)) ∙ get_or-drop first there i false))
     ∙ any_shift (unheld_in there marks) first 0 first (end - first) (omega arith)
 
 -- none goes where none was missed
 pub none_missed : (there marks : List Bool) (first end : ℕ) (misses : Bool) → first ≤ end → end ≤ length there → misses ≡ false
     → (first + length (take (end - first) (drop first there)) ≤ length marks
-    → misses ≡ list_any (λ i. get_or (take (end - first) (drop first there)) i false && not (get_or marks (first + i) false)) (range_with_len 0 (length (take (end - first) (drop first there)))))
-    → (length marks < first + length (take (end - first) (drop first there)) → misses ≡ true) → filter (unheld_in there marks) (range_with_len first (end - first)) ≡ []
+    → misses ≡ list_any (λ i. get_or (take (end - first) (drop first there)) i false && not (get_or marks (first + i) false))
+    (range_with_len 0 (length (take (end - first) (drop first there)))))
+    → (length marks < first + length (take (end - first) (drop first there)) → misses ≡ true)
+    → filter (unheld_in there marks) (range_with_len first (end - first)) ≡ []
 none_missed there marks first end misses order inside none within past =
     let n = end - first in
     let wanted : length (take n (drop first there)) ≡ n = length-take-le n (drop first there) (omega (arith, length-drop first there, inside)) in
@@ -105,7 +109,8 @@ blocks_within (b ∷ blocks) n whole =
 
 pub numbers_within : (blocks : List ℕ) (loose n : ℕ) → AreWhole blocks n → loose ≤ n → All (λ o. o < n) (numbers_in blocks loose n)
 numbers_within blocks loose n whole order =
-    All-append (λ o. o < n) (flat_map block_of blocks) (range_with_len loose (n - loose)) (blocks_within blocks n whole) (range_within loose (n - loose) n (omega (arith, order)))
+    All-append (λ o. o < n) (flat_map block_of blocks) (range_with_len loose (n - loose)) (blocks_within blocks n whole)
+    (range_within loose (n - loose) n (omega (arith, order)))
 
 -- with one object more
 pub numbers_more : (blocks : List ℕ) (loose n : ℕ) → loose ≤ n → numbers_in blocks loose (n + 1) ≡ numbers_in blocks loose n ++ n ∷ []
@@ -135,11 +140,13 @@ pub filter_block_more : (p : ℕ → Bool) (blocks : List ℕ) (i : ℕ) → i <
     → filter p (flat_map block_of (take i blocks)) ++ filter p (block_of (get_or blocks i 0)) ≡ filter p (flat_map block_of (take (i + 1) blocks))
 filter_block_more p blocks i h =
     sym (ap (λ (bs : List ℕ). filter p (flat_map block_of bs)) (take_more blocks i 0 h)
-    ∙ ap (filter p) (flat_map-append block_of (take i blocks) (get_or blocks i 0 ∷ []) ∙ ap (λ (os : List ℕ). flat_map block_of (take i blocks) ++ os) (append-nil (block_of (get_or blocks i 0))))
+    ∙ ap (filter p) (flat_map-append block_of (take i blocks) (get_or blocks i 0 ∷ [])
+    ∙ ap (λ (os : List ℕ). flat_map block_of (take i blocks) ++ os) (append-nil (block_of (get_or blocks i 0))))
     ∙ filter-append p (flat_map block_of (take i blocks)) (block_of (get_or blocks i 0)))
 
 -- blocks of which no number passes may go
-passing_blocks : (p : ℕ → Bool) (blocks : List ℕ) → filter p (flat_map block_of (filter (λ b. list_any p (block_of b)) blocks)) ≡ filter p (flat_map block_of blocks)
+passing_blocks : (p : ℕ → Bool) (blocks : List ℕ)
+    → filter p (flat_map block_of (filter (λ b. list_any p (block_of b)) blocks)) ≡ filter p (flat_map block_of blocks)
 passing_blocks p [] = refl
 passing_blocks p (b ∷ blocks) =
     elim (cases_Bool (list_any p (block_of b))) [
@@ -147,10 +154,13 @@ passing_blocks p (b ∷ blocks) =
           (filter-append p (block_of b) (flat_map block_of (filter (λ c. list_any p (block_of c)) blocks))
           ∙ ap (λ (os : List ℕ). filter p (block_of b) ++ os) (passing_blocks p blocks) ∙ sym (filter-append p (block_of b) (flat_map block_of blocks)))
       | inr none ↦ rw none
-          (passing_blocks p blocks ∙ sym (filter-append p (block_of b) (flat_map block_of blocks) ∙ ap (λ (os : List ℕ). os ++ filter p (flat_map block_of blocks)) (filter_none p (block_of b) none)))
+          (passing_blocks p blocks ∙ sym
+          (filter-append p (block_of b) (flat_map block_of blocks)
+          ∙ ap (λ (os : List ℕ). os ++ filter p (flat_map block_of blocks)) (filter_none p (block_of b) none)))
     ]
 
-pub passing_numbers : (p : ℕ → Bool) (blocks : List ℕ) (loose n : ℕ) → filter p (numbers_in (filter (λ b. list_any p (block_of b)) blocks) loose n) ≡ filter p (numbers_in blocks loose n)
+pub passing_numbers : (p : ℕ → Bool) (blocks : List ℕ) (loose n : ℕ)
+    → filter p (numbers_in (filter (λ b. list_any p (block_of b)) blocks) loose n) ≡ filter p (numbers_in blocks loose n)
 passing_numbers p blocks loose n =
     filter-append p (flat_map block_of (filter (λ b. list_any p (block_of b)) blocks)) (range_with_len loose (n - loose))
     ∙ ap (λ (os : List ℕ). os ++ filter p (range_with_len loose (n - loose))) (passing_blocks p blocks)

@@ -17,32 +17,38 @@ use Rattle.jg_table_heap.proofs.Steps.{standing_made, standing_wrote}
 use Rattle.jg_table_heap.proofs.Regions.{with_region, standing_region, length-overwritten}
 
 -- with one object more
-pub rows_made : {A : Type 0} (items : List (Object A)) (rows : Rows) (k : ℕ) (e : List Event) (m : Making) (x : Object A) (more : List (Object A)) → map row_of items ≡ rows.objects → k ≡ rows.classes
+pub rows_made : {A : Type 0} (items : List (Object A)) (rows : Rows) (k : ℕ) (e : List Event) (m : Making) (x : Object A) (more : List (Object A))
+    → map row_of items ≡ rows.objects → k ≡ rows.classes
     → Stands rows e → more ≡ items ++ x ∷ [] → row_of x ≡ row_of_making m → map row_of more ≡ standing k (Made m ∷ e)
 rows_made items rows k e m x more view classes stands is made =
     ap (map row_of) is ∙ map-append row_of items (x ∷ []) ∙ ap (λ (xs : List Row). xs ++ row_of x ∷ []) (view ∙ stands)
     ∙ ap (λ (r : Row). standing rows.classes e ++ r ∷ []) made ∙ sym (standing_made rows.classes m e) ∙ ap (λ n. standing n (Made m ∷ e)) (sym classes)
 
 -- with one slot written
-rows_wrote : {A : Type 0} (items : List (Object A)) (rows : Rows) (k : ℕ) (e : List Event) (o j : ℕ) (v : Slot) (x y : Object A) → map row_of items ≡ rows.objects → k ≡ rows.classes
+rows_wrote : {A : Type 0} (items : List (Object A)) (rows : Rows) (k : ℕ) (e : List Event) (o j : ℕ) (v : Slot) (x y : Object A)
+    → map row_of items ≡ rows.objects → k ≡ rows.classes
     → Stands rows e → o < count_in rows → j < length (row_in rows.objects o).slots → x ≡ get_or items o x → row_of y ≡ with_slot (row_of x) j v
     → map row_of (set items o y) ≡ standing k (Wrote o j v ∷ e)
 rows_wrote items rows k e o j v x y view classes stands made within is wrote =
     let n : count_in rows ≡ count_of rows.classes e = count_stands rows e stands in
     let m : length (row_in rows.objects o).slots ≡ length (slots_at rows.classes e o) = ap length (slots_stand rows e o stands made) in
     map-set row_of items o y ∙ ap (λ (xs : List Row). set xs o (row_of y)) (view ∙ stands)
-    ∙ ap (set (standing rows.classes e) o) (wrote ∙ ap (λ (r : Row). with_slot r j v) (kept items rows.objects o x view made is ∙ row_stands rows e o stands made))
+    ∙ ap (set (standing rows.classes e) o)
+    (wrote ∙ ap (λ (r : Row). with_slot r j v) (kept items rows.objects o x view made is ∙ row_stands rows e o stands made))
     ∙ sym (standing_wrote rows.classes e o j v (omega arith) (omega arith)) ∙ ap (λ n. standing n (Wrote o j v ∷ e)) (sym classes)
 
 -- with slots written that follow one another
-rows_region : {A : Type 0} (items : List (Object A)) (rows : Rows) (k : ℕ) (e : List Event) (o j : ℕ) (vs : List ℤ) (x y : Object A) → map row_of items ≡ rows.objects → k ≡ rows.classes
-    → Stands rows e → o < count_in rows → j + length vs ≤ length (row_in rows.objects o).slots → x ≡ get_or items o x → row_of y ≡ with_region (row_of x) j (map Number vs)
+rows_region : {A : Type 0} (items : List (Object A)) (rows : Rows) (k : ℕ) (e : List Event) (o j : ℕ) (vs : List ℤ) (x y : Object A)
+    → map row_of items ≡ rows.objects → k ≡ rows.classes
+    → Stands rows e → o < count_in rows → j + length vs ≤ length (row_in rows.objects o).slots → x ≡ get_or items o x
+    → row_of y ≡ with_region (row_of x) j (map Number vs)
     → map row_of (set items o y) ≡ standing k (region_writes o j vs ++ e)
 rows_region items rows k e o j vs x y view classes stands made within is wrote =
     let n : count_in rows ≡ count_of rows.classes e = count_stands rows e stands in
     let m : length (row_in rows.objects o).slots ≡ length (slots_at rows.classes e o) = ap length (slots_stand rows e o stands made) in
     map-set row_of items o y ∙ ap (λ (xs : List Row). set xs o (row_of y)) (view ∙ stands)
-    ∙ ap (set (standing rows.classes e) o) (wrote ∙ ap (λ (r : Row). with_region r j (map Number vs)) (kept items rows.objects o x view made is ∙ row_stands rows e o stands made))
+    ∙ ap (set (standing rows.classes e) o)
+    (wrote ∙ ap (λ (r : Row). with_region r j (map Number vs)) (kept items rows.objects o x view made is ∙ row_stands rows e o stands made))
     ∙ sym (standing_region rows.classes e o j vs (omega arith) (omega arith)) ∙ ap (λ n. standing n (region_writes o j vs ++ e)) (sym classes)
 
 -- what has items isn't a string
@@ -53,7 +59,8 @@ takes_no_text class (ToObject target) h = λ text. omega arith
 -- ---- what stays
 
 -- a body with slots written that follow one another, as a row
-row_region : {A : Type 0} (x : Object A) (body : Body A) (j : ℕ) (vs : List Slot) → class_of_body body ≡ class_of_body x.body → units_of_body body ≡ units_of_body x.body
+row_region : {A : Type 0} (x : Object A) (body : Body A) (j : ℕ) (vs : List Slot) → class_of_body body ≡ class_of_body x.body
+    → units_of_body body ≡ units_of_body x.body
     → slots_of_body body ≡ overwritten (slots_of_body x.body) j vs → row_of (record { body = body; gone = x.gone }) ≡ with_region (row_of x) j vs
 row_region x body j vs class units slots =
     ap (λ n. record { class = n; units = units_of_body body; slots = slots_of_body body; gone = x.gone }) class
@@ -61,7 +68,8 @@ row_region x body j vs class units slots =
     ∙ ap (λ (xs : List Slot). record { class = class_of_body x.body; units = units_of_body x.body; slots = xs; gone = x.gone }) slots
 
 -- a body with one slot written, as a row
-row_written : {A : Type 0} (x : Object A) (body : Body A) (j : ℕ) (v : Slot) → class_of_body body ≡ class_of_body x.body → units_of_body body ≡ units_of_body x.body
+row_written : {A : Type 0} (x : Object A) (body : Body A) (j : ℕ) (v : Slot) → class_of_body body ≡ class_of_body x.body
+    → units_of_body body ≡ units_of_body x.body
     → slots_of_body body ≡ set (slots_of_body x.body) j v → row_of (record { body = body; gone = x.gone }) ≡ with_slot (row_of x) j v
 row_written x body j v class units slots =
     ap (λ n. record { class = n; units = units_of_body body; slots = slots_of_body body; gone = x.gone }) class
@@ -71,11 +79,13 @@ row_written x body j v class units slots =
 class_kept : (rs : List Row) (o : ℕ) (r : Row) (p : ℕ) → o < length rs → r.class ≡ (row_in rs o).class → (row_in (set rs o r) p).class ≡ (row_in rs p).class
 class_kept rs o r p h same =
     elim (cases_eq p o) [
-      | inl here ↦ ap (λ q. (row_in (set rs o r) q).class) here ∙ ap (λ (w : Row). w.class) (get_or-set_same rs o r no_row h) ∙ same ∙ ap (λ q. (row_in rs q).class) (sym here)
+      | inl here ↦ ap (λ q. (row_in (set rs o r) q).class) here ∙ ap (λ (w : Row). w.class) (get_or-set_same rs o r no_row h) ∙ same
+          ∙ ap (λ q. (row_in rs q).class) (sym here)
       | inr other ↦ ap (λ (w : Row). w.class) (get_or-set_other rs o p r no_row other)
     ]
 
-length_kept : (rs : List Row) (o : ℕ) (r : Row) (p : ℕ) → o < length rs → length r.units + length r.slots ≡ length (row_in rs o).units + length (row_in rs o).slots
+length_kept : (rs : List Row) (o : ℕ) (r : Row) (p : ℕ) → o < length rs
+    → length r.units + length r.slots ≡ length (row_in rs o).units + length (row_in rs o).slots
     → length (row_in (set rs o r) p).units + length (row_in (set rs o r) p).slots ≡ length (row_in rs p).units + length (row_in rs p).slots
 length_kept rs o r p h same =
     elim (cases_eq p o) [
@@ -87,12 +97,14 @@ length_kept rs o r p h same =
     ]
 
 -- a row that is replaced by one of its class and its length keeps the shapes
-shapes_set : {A : Type 0} (items : List (Object A)) (rows : Rows) (k o : ℕ) (r : Row) (y : Object A) → map row_of items ≡ rows.objects → o < count_in rows → row_of y ≡ r
+shapes_set : {A : Type 0} (items : List (Object A)) (rows : Rows) (k o : ℕ) (r : Row) (y : Object A) → map row_of items ≡ rows.objects → o < count_in rows
+    → row_of y ≡ r
     → r.class ≡ (row_in rows.objects o).class → length r.units + length r.slots ≡ length (row_in rows.objects o).units + length (row_in rows.objects o).slots
     → KeepsShapes rows (record { classes = k; objects = map row_of (set items o y) })
 shapes_set items rows k o r y view made is class len =
     let objects : List Row = rows.objects in
-    let new : map row_of (set items o y) ≡ set objects o r = map-set row_of items o y ∙ ap (λ (xs : List Row). set xs o (row_of y)) view ∙ ap (set objects o) is in
+    let new : map row_of (set items o y) ≡ set objects o r = map-set row_of items o y ∙ ap (λ (xs : List Row). set xs o (row_of y)) view ∙ ap (set objects o) is
+    in
     record {
       count = ap (λ (rs : List Row). length rs) new ∙ length-set objects o r;
       class = λ p. ap (λ (rs : List Row). (row_in rs p).class) new ∙ class_kept objects o r p made class;
@@ -100,7 +112,8 @@ shapes_set items rows k o r y view made is class len =
     }
 
 -- a write keeps the shapes
-shapes_wrote : {A : Type 0} (items : List (Object A)) (rows : Rows) (k o j : ℕ) (v : Slot) (x y : Object A) → map row_of items ≡ rows.objects → o < count_in rows → x ≡ get_or items o x
+shapes_wrote : {A : Type 0} (items : List (Object A)) (rows : Rows) (k o j : ℕ) (v : Slot) (x y : Object A) → map row_of items ≡ rows.objects
+    → o < count_in rows → x ≡ get_or items o x
     → row_of y ≡ with_slot (row_of x) j v → KeepsShapes rows (record { classes = k; objects = map row_of (set items o y) })
 shapes_wrote items rows k o j v x y view made is wrote =
     let row : Row = row_in rows.objects o in
@@ -108,15 +121,18 @@ shapes_wrote items rows k o j v x y view made is wrote =
     (ap (λ n. length row.units + n) (length-set row.slots j v))
 
 -- so does a write of slots that follow one another
-shapes_region : {A : Type 0} (items : List (Object A)) (rows : Rows) (k o j : ℕ) (vs : List Slot) (x y : Object A) → map row_of items ≡ rows.objects → o < count_in rows → x ≡ get_or items o x
-    → j + length vs ≤ length (row_in rows.objects o).slots → row_of y ≡ with_region (row_of x) j vs → KeepsShapes rows (record { classes = k; objects = map row_of (set items o y) })
+shapes_region : {A : Type 0} (items : List (Object A)) (rows : Rows) (k o j : ℕ) (vs : List Slot) (x y : Object A) → map row_of items ≡ rows.objects
+    → o < count_in rows → x ≡ get_or items o x
+    → j + length vs ≤ length (row_in rows.objects o).slots → row_of y ≡ with_region (row_of x) j vs
+    → KeepsShapes rows (record { classes = k; objects = map row_of (set items o y) })
 shapes_region items rows k o j vs x y view made is within wrote =
     let row : Row = row_in rows.objects o in
     shapes_set items rows k o (with_region row j vs) y view made (wrote ∙ ap (λ (r : Row). with_region r j vs) (kept items rows.objects o x view made is)) refl
     (ap (λ n. length row.units + n) (length-overwritten row.slots j vs within))
 
 -- a collection keeps the shapes
-pub shapes_swept : (rows : Rows) (k : ℕ) (new : List Row) (goes : ℕ → Bool) → length new ≡ length rows.objects → ((o : ℕ) → row_in new o ≡ ended_row (goes o) (row_in rows.objects o))
+pub shapes_swept : (rows : Rows) (k : ℕ) (new : List Row) (goes : ℕ → Bool) → length new ≡ length rows.objects
+    → ((o : ℕ) → row_in new o ≡ ended_row (goes o) (row_in rows.objects o))
     → KeepsShapes rows (record { classes = k; objects = new })
 shapes_swept rows k new goes len ended =
     record { count = len; class = λ p. ap (λ (r : Row). r.class) (ended p); len = λ p. ap (λ (r : Row). length r.units + length r.slots) (ended p) }
@@ -140,7 +156,8 @@ module _ {A : Type 0} (bodies : List (Body A)) (there : List Bool) (rows : Rows)
   keeps_shapes objects = KeepsShapes rows (record { classes = k; objects = map row_of objects })
 
   -- with one slot written
-  pub rows_written : (e : List Event) (j : ℕ) (v : Slot) → k ≡ rows.classes → Stands rows e → j < length (row_in rows.objects o).slots → slots_of_body new ≡ set (slots_of_body b) j v
+  pub rows_written : (e : List Event) (j : ℕ) (v : Slot) → k ≡ rows.classes → Stands rows e → j < length (row_in rows.objects o).slots
+      → slots_of_body new ≡ set (slots_of_body b) j v
       → map row_of (objects_of (set bodies o new) there) ≡ standing k (Wrote o j v ∷ e)
   rows_written e j v classes stands within slots =
       ap (map row_of) set_is
@@ -167,4 +184,5 @@ module _ {A : Type 0} (bodies : List (Body A)) (there : List Bool) (rows : Rows)
       → slots_of_body new ≡ overwritten (slots_of_body b) j vs → keeps_shapes (objects_of (set bodies o new) there)
   shapes_overwritten j vs within slots =
       subst keeps_shapes (sym set_is)
-      (shapes_region (objects_of bodies there) rows k o j vs (object_at there o b) (object_at there o new) view made read within (row_region (object_at there o b) new j vs class units slots))
+      (shapes_region (objects_of bodies there) rows k o j vs (object_at there o b) (object_at there o new) view made read within
+      (row_region (object_at there o b) new j vs class units slots))

@@ -19,7 +19,8 @@ use Rattle.jg_table_heap.proofs.Sweeping.{goes_now, pointing_holds}
 use Rattle.jg_table_heap.proofs.Steps.{standing_is}
 use Rattle.jg_table_heap.proofs.Told.{length-standing, row_in-standing, gone-row_at}
 
-row_collected : (k : ℕ) (roots : List ℕ) (e : List Event) (o : ℕ) → o < count_of k e → row_at k (Collected roots ∷ e) o ≡ swept_row (held_at k roots e o) (row_at k e o)
+row_collected : (k : ℕ) (roots : List ℕ) (e : List Event) (o : ℕ) → o < count_of k e
+    → row_at k (Collected roots ∷ e) o ≡ swept_row (held_at k roots e o) (row_at k e o)
 unfolding row_at slots_at
 row_collected k roots e o h = rw (lt-ltb o (count_of k e) h) refl
 
@@ -42,7 +43,8 @@ live_points k e o =
 
 -- with the class objects and what slots hold marked, the marks say what is held
 marks_held : (k : ℕ) (roots : List ℕ) (e : List Event) (old new : List Bool) → length new ≡ length old → MarksRoots k roots e old
-    → ((o : ℕ) → o < length old → get_or new o false ≡ ((get_or old o false || ltb o k) || list_any (slot_of_row_holds (standing k e) o) (live_in (standing k e))))
+    → ((o : ℕ) → o < length old
+    → get_or new o false ≡ ((get_or old o false || ltb o k) || list_any (slot_of_row_holds (standing k e) o) (live_in (standing k e))))
     → MarksHeld k roots e new
 marks_held k roots e old new len was now o h there =
     let within : o < length old = slice_get_within old o (list_any (λ r. eqb r o) roots) (was o h there) in
@@ -105,7 +107,8 @@ marks_of items before there blocks loose pointed pointing rows k e roots old mid
     ∙ ap (λ (rs : List Row). list_any (slot_of_row_holds rs o) (live_in rs)) base))
 
 -- those of the blocks that are in being and aren't marked are all that are in being and aren't marked
-pub listed : {A : Type 0} (items : List (Object A)) (there flags : List Bool) (blocks firsts : List ℕ) (loose : ℕ) (pointing : List ℕ) (rows : Rows) (k : ℕ) (marks : List Bool)
+pub listed : {A : Type 0} (items : List (Object A)) (there flags : List Bool) (blocks firsts : List ℕ) (loose : ℕ) (pointing : List ℕ) (rows : Rows) (k : ℕ)
+    (marks : List Bool)
     → flags ≡ there → firsts ≡ blocks → Keeps items there blocks loose pointing → record { classes = k; objects = map row_of items } ≡ rows
     → filter (unheld_in flags marks) (numbers_in firsts loose (length flags)) ≡ filter (λ o. not (get_or marks o false)) (live_in rows.objects)
 listed items there flags blocks firsts loose pointing rows k marks is same keeps view =
@@ -133,12 +136,15 @@ pub rows_swept : {A : Type 0} (items before new : List (Object A)) (unheld : Lis
 rows_swept items before new unheld rows k e roots marks is view all stands len ended held =
     let base : map row_of before ≡ standing rows.classes e = ap (map row_of) is ∙ ap (λ (r : Rows). r.objects) view ∙ stands in
     let unmarked : ℕ → Bool = λ o. not (get_or marks o false) in
-    standing_swept rows.classes roots e marks (map row_of new) (length-map new row_of ∙ len ∙ sym (length-map before row_of) ∙ ap length base ∙ length-standing rows.classes e) held
-    (λ o. ended o ∙ ap (λ b. ended_row b (row_in (map row_of before) o)) (goes_listed (standing rows.classes e) marks unheld o (all ∙ ap (λ (rs : List Row). filter unmarked (live_in rs)) stands))
+    standing_swept rows.classes roots e marks (map row_of new) (length-map new row_of ∙ len ∙ sym (length-map before row_of) ∙ ap length base
+    ∙ length-standing rows.classes e) held
+    (λ o. ended o ∙ ap (λ b. ended_row b (row_in (map row_of before) o))
+    (goes_listed (standing rows.classes e) marks unheld o (all ∙ ap (λ (rs : List Row). filter unmarked (live_in rs)) stands))
     ∙ ap (λ (rs : List Row). ended_row (list_any (λ p. not (get_or marks p false) && eqb p o) (live_in (standing rows.classes e))) (row_in rs o)) base)
     ∙ ap (λ c. standing c (Collected roots ∷ e)) (sym (ap (λ (r : Rows). r.classes) view))
 
 -- the rows of a new store
 pub standing_new : (k : ℕ) → replicate k (row_of_making (Plain 1 [])) ≡ standing k []
 unfolding standing row_at slots_at
-standing_new k = fill_by_all (row_at k []) (replicate k (row_of_making (Plain 1 []))) k no_row (length-replicate k (row_of_making (Plain 1 []))) (λ o h. get_or-replicate k o _ no_row h)
+standing_new k = fill_by_all (row_at k []) (replicate k (row_of_making (Plain 1 []))) k no_row (length-replicate k (row_of_making (Plain 1 [])))
+    (λ o h. get_or-replicate k o _ no_row h)

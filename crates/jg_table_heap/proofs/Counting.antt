@@ -31,23 +31,28 @@ being_more there flags count is more = omega (arith, is, ap trues more, true_mor
 -- those that are listed are no more
 module _ {A : Type 0} (bodies : List (Body A)) (there marks : List Bool) (unheld : List ℕ) (same : length there ≡ length bodies)
     (listed : unheld ≡ filter (λ o. not (get_or marks o false)) (live_in (map row_of (objects_of bodies there))))
-    (flags : List Bool) (count : length flags ≡ length there) (goes : (o : ℕ) → get_or flags o false ≡ (get_or there o false && not (list_any (λ p. eqb p o) unheld))) where
+    (flags : List Bool) (count : length flags ≡ length there) (goes : (o : ℕ)
+    → get_or flags o false ≡ (get_or there o false && not (list_any (λ p. eqb p o) unheld))) where
   pub being_less : length unheld + trues flags ≡ trues there
   being_less =
       let rows : List Row = map row_of (objects_of bodies there) in
       let new : List Row = map row_of (objects_of bodies flags) in
       let stay : ℕ → Bool = λ o. get_or marks o false in
       let many : length new ≡ length rows =
-      length-map (objects_of bodies flags) row_of ∙ length-objects_of bodies flags (count ∙ same) ∙ sym (length-map (objects_of bodies there) row_of ∙ length-objects_of bodies there same) in
+      length-map (objects_of bodies flags) row_of ∙ length-objects_of bodies flags (count ∙ same)
+      ∙ sym (length-map (objects_of bodies there) row_of ∙ length-objects_of bodies there same) in
       let left : filter stay (live_in rows) ≡ live_in new =
-      live_swept rows new stay many (λ o. swept_of bodies there marks unheld same listed flags count goes o ∙ ap (λ b. ended_row b (row_in rows o)) (goes_listed rows marks unheld o listed)) in
+      live_swept rows new stay many
+      (λ o. swept_of bodies there marks unheld same listed flags count goes o
+      ∙ ap (λ b. ended_row b (row_in rows o)) (goes_listed rows marks unheld o listed)) in
       let both = length-filter_both stay (λ o. not (stay o)) (λ o. refl) (live_in rows) in
       omega (arith, trues_live bodies there same, trues_live bodies flags (count ∙ same), ap length left, both, ap length listed)
 
 -- ---- against the history
 
 -- where all of the first k numbers from one on pass
-first_pass : (p : ℕ → Bool) (a b k n m : ℕ) → b ≡ a + k → m ≡ k + n → ((o : ℕ) → o < b → p o ≡ true) → length (filter p (range_with_len a m)) ≡ k + length (filter p (range_with_len b n))
+first_pass : (p : ℕ → Bool) (a b k n m : ℕ) → b ≡ a + k → m ≡ k + n → ((o : ℕ) → o < b → p o ≡ true)
+    → length (filter p (range_with_len a m)) ≡ k + length (filter p (range_with_len b n))
 first_pass p a b zero n m start many pass =
     let here : b ≡ a = omega (arith, start) in
     let all : m ≡ n = omega (arith, many) in
@@ -72,7 +77,8 @@ pub being_told : {A : Type 0} (bodies : List (Body A)) (there : List Bool) (k : 
 being_told bodies there k rows e same view stands =
     let all : ℕ = count_of rows.classes e in
     let stay : ℕ → Bool = λ o. not (gone_at rows.classes e o) in
-    let live = trues_live bodies there same ∙ ap (λ (rs : List Row). length (live_in rs)) (ap (λ (r : Rows). r.objects) view ∙ stands) ∙ ap length (live_standing rows.classes e) in
+    let live = trues_live bodies there same ∙ ap (λ (rs : List Row). length (live_in rs)) (ap (λ (r : Rows). r.objects) view ∙ stands)
+    ∙ ap length (live_standing rows.classes e) in
     let rest : ℕ = all - rows.classes in
     let whole : all ≡ rows.classes + rest = omega (arith, classes_counted rows.classes e) in
     let parts = first_pass stay 0 rows.classes rows.classes rest all (sym (zero-add rows.classes)) whole (classes_there rows.classes e) in

@@ -36,7 +36,8 @@ is_byte_in items i (Some (pos n)) e =
     too_large n m other h e = let same : n ≡ m = cc in false≢true (sym other ∙ lt-ltb n 256 (omega arith))
 
 -- two units whose spellings stand at the front are one
-one_unit : (items : List ℤ) (u v : ℕ) (rest tail : List ℤ) → u < 2 ^ 16 → v < 2 ^ 16 → items ≡ map pos (spelling u) ++ rest → items ≡ map pos (spelling v) ++ tail → u ≡ v
+one_unit : (items : List ℤ) (u v : ℕ) (rest tail : List ℤ) → u < 2 ^ 16 → v < 2 ^ 16 → items ≡ map pos (spelling u) ++ rest
+    → items ≡ map pos (spelling v) ++ tail → u ≡ v
 one_unit items u v rest tail a b h g =
     let x = byte_in (slice_get items 0) in
     let y = byte_in (slice_get items 1) in
@@ -68,7 +69,8 @@ is_candidate items u rest h =
       | inl w ↦ (let is : items ≡ pos u ∷ rest = h ∙ rw (spelling_one u w.0 w.1) refl in rw is (or_left _ _ (eq-eqb u u refl)))
       | inr more ↦ elim more [
         | inl w ↦ (
-            let is : items ≡ pos (192 + u / 64) ∷ pos (128 + u % 64) ∷ rest = h ∙ rw (spelling_two u (u / 64) (u % 64) (omega arith) (omega arith) w.0 w.1) refl in
+            let is : items ≡ pos (192 + u / 64) ∷ pos (128 + u % 64) ∷ rest = h ∙ rw (spelling_two u (u / 64) (u % 64) (omega arith) (omega arith) w.0 w.1) refl
+            in
             rw is (or_right _ _ (or_left _ _ (eq-eqb _ u (two_is u)))))
         | inr w ↦ (
             let is : items ≡ pos (224 + u / 4096) ∷ pos (128 + u / 64 % 64) ∷ pos (128 + u % 64) ∷ rest = h ∙ rw (spelling_long u w) refl in
@@ -111,26 +113,31 @@ first_found items u rest small h =
 -- ---- all units
 
 -- a unit, where the rest is read
-one_more : (u : ℕ) (units : List ℕ) (items : List ℤ) (n : ℕ) → ((items : List ℤ) (n : ℕ) → length items ≤ n → IsSpeltInItems units items → decoded_by items n ≡ Some units)
+one_more : (u : ℕ) (units : List ℕ) (items : List ℤ) (n : ℕ)
+    → ((items : List ℤ) (n : ℕ) → length items ≤ n → IsSpeltInItems units items → decoded_by items n ≡ Some units)
     → length items ≤ n → u < 2 ^ 16 → AreUnits units → items ≡ map pos (spelling u) ++ map pos (spelt units) → decoded_by items n ≡ Some (u ∷ units)
 one_more u units [] n again h small fit begins =
-    let len : 0 ≡ length (map pos (spelling u)) + length (map pos (spelt units)) = ap length begins ∙ length-append (map pos (spelling u)) (map pos (spelt units)) in
+    let len : 0 ≡ length (map pos (spelling u)) + length (map pos (spelt units)) =
+    ap length begins ∙ length-append (map pos (spelling u)) (map pos (spelt units)) in
     absurd (omega (arith, length-map (spelling u) pos, positive u small))
 one_more u units (x ∷ items) zero again h small fit begins = absurd (omega arith)
 one_more u units (x ∷ items) (suc n) again h small fit begins =
-    let len : length (x ∷ items) ≡ length (map pos (spelling u)) + length (map pos (spelt units)) = ap length begins ∙ length-append (map pos (spelling u)) (map pos (spelt units)) in
+    let len : length (x ∷ items) ≡ length (map pos (spelling u)) + length (map pos (spelt units)) =
+    ap length begins ∙ length-append (map pos (spelling u)) (map pos (spelt units)) in
     let rest : drop (length (spelling u)) (x ∷ items) ≡ map pos (spelt units) =
     ap (drop (length (spelling u))) begins ∙ drop_at (map pos (spelling u)) (map pos (spelt units)) (length (spelling u)) (length-map (spelling u) pos) in
     let left : length (drop (length (spelling u)) (x ∷ items)) ≡ length (map pos (spelt units)) = ap length rest in
     ap (λ o. before o (λ v. decoded_by (drop (length (spelling v)) (x ∷ items)) n)) (first_found (x ∷ items) u (map pos (spelt units)) small begins)
-    ∙ ap (option_map (λ us. u ∷ us)) (again (drop (length (spelling u)) (x ∷ items)) n (omega (arith, length-map (spelling u) pos, positive u small)) (fit, rest))
+    ∙ ap (option_map (λ us. u ∷ us))
+    (again (drop (length (spelling u)) (x ∷ items)) n (omega (arith, length-map (spelling u) pos, positive u small)) (fit, rest))
 
 complete : (units : List ℕ) (items : List ℤ) (n : ℕ) → length items ≤ n → IsSpeltInItems units items → decoded_by items n ≡ Some units
 complete [] items n h s = rw s.1 refl
 complete (u ∷ units) items n h s = one_more u units items n (complete units) h s.0.0 s.0.1 (s.1 ∙ front_of u units)
 
 -- what was read behind a unit
-behind : (u : ℕ) (items : List ℤ) (units : List ℕ) (r : Option (List ℕ)) → ((us : List ℕ) → r ≡ Some us → IsSpeltInItems us (drop (length (spelling u)) items)) → first_unit items ≡ Some u
+behind : (u : ℕ) (items : List ℤ) (units : List ℕ) (r : Option (List ℕ)) → ((us : List ℕ) → r ≡ Some us → IsSpeltInItems us (drop (length (spelling u)) items))
+    → first_unit items ≡ Some u
     → option_map (λ us. u ∷ us) r ≡ Some units → IsSpeltInItems units items
 behind u items units None again is g = absurd (cc)
 behind u items units (Some us) again is g =
@@ -187,7 +194,8 @@ decoded_found items (Err e) h none = tt
 decoded_found items (Ok None) h none = not_read items (decoded items) refl none
 decoded_found items (Ok (Some units)) h none = sym ((decoded_means items units.items).1 h)
 
-pub found_decoded : {A E : Type 0} (items same : List ℤ) (r : Result (Option (Vec ℕ A)) E) → same ≡ items → IfOk r (λ found. IfSome found (λ units. IsSpeltInItems units.items same))
+pub found_decoded : {A E : Type 0} (items same : List ℤ) (r : Result (Option (Vec ℕ A)) E) → same ≡ items
+    → IfOk r (λ found. IfSome found (λ units. IsSpeltInItems units.items same))
     → IfOk r (λ found. IfNone found ((units : List ℕ) → IsSpeltInItems units same → ⊥))
     → IfOk r (λ found. option_map (λ units. units.items) found ≡ decoded items)
 found_decoded items same r e h none =

@@ -51,10 +51,13 @@ was_ended k (Went p ∷ e) o h =
 ended_is_gone : (k : ℕ) (e : List Event) (o : ℕ) → WasCollected k e o ⊎ WasLetGo k e o → gone_at k e o ≡ true
 ended_is_gone k e o (inl (later, roots, before, is, made, unheld)) =
     ap (λ (l : List Event). gone_at k l o) is
-    ∙ stays_gone k later (Collected roots ∷ before) o (or_right (gone_at k before o) _ (and_from _ _ (lt-ltb o (count_of k before) made) (not_from_false _ unheld)))
+    ∙ stays_gone k later (Collected roots ∷ before) o
+    (or_right (gone_at k before o) _ (and_from _ _ (lt-ltb o (count_of k before) made) (not_from_false _ unheld)))
 ended_is_gone k e o (inr (later, before, is, made, other)) =
     ap (λ (l : List Event). gone_at k l o) is
-    ∙ stays_gone k later (Went o ∷ before) o (or_right (gone_at k before o) _ (and_from _ _ (eq-eqb o o refl) (and_from _ _ (lt-ltb o (count_of k before) made) (not_from_false _ (le-ltb o k other)))))
+    ∙ stays_gone k later (Went o ∷ before) o
+    (or_right (gone_at k before o) _
+    (and_from _ _ (eq-eqb o o refl) (and_from _ _ (lt-ltb o (count_of k before) made) (not_from_false _ (le-ltb o k other)))))
 
 pub gone_means : GoneMeans
 gone_means k e o = (was_ended k e o, ended_is_gone k e o)
@@ -105,7 +108,8 @@ by_its_slot k e p o w = points_same k e p o ∙ by_slot k e p o w.0 w.2 (ap (hol
 pub points_mean : PointsMeans
 points_mean k e p o = (in_its_slot k e p o, by_its_slot k e p o)
 
-in_slot : (k : ℕ) (e : List Event) (o : ℕ) → list_any (λ p. not (gone_at k e p) && points_at k e p o) (range_with_len 0 (count_of k e)) ≡ true → StandsInASlot k e o
+in_slot : (k : ℕ) (e : List Event) (o : ℕ) → list_any (λ p. not (gone_at k e p) && points_at k e p o) (range_with_len 0 (count_of k e)) ≡ true
+    → StandsInASlot k e o
 in_slot k e o h =
     let found = Any-from_list_any (λ p. not (gone_at k e p) && points_at k e p o) (range_with_len 0 (count_of k e)) h in
     let p = found.1 in
@@ -113,13 +117,15 @@ in_slot k e o h =
     let slot : HoldsInASlot k e p o = in_its_slot k e p o parts.1 in
     (p, slot.0, slot.1, (in_range (count_of k e) found.0 p found.2 found.3).1, slot.2, not-true _ parts.0, slot.3, slot.4)
 
-by_object : (k : ℕ) (e : List Event) (o : ℕ) → StandsInASlot k e o → list_any (λ p. not (gone_at k e p) && points_at k e p o) (range_with_len 0 (count_of k e)) ≡ true
+by_object : (k : ℕ) (e : List Event) (o : ℕ) → StandsInASlot k e o
+    → list_any (λ p. not (gone_at k e p) && points_at k e p o) (range_with_len 0 (count_of k e)) ≡ true
 by_object k e o w =
     let p = w.0 in
     let at : get_or (range_with_len 0 (count_of k e)) p 0 ≡ p = get_or-range_with_len 0 (count_of k e) p 0 w.3 ∙ zero-add p in
     let points : points_at k e p o ≡ true = by_its_slot k e p o (w.1, w.2, w.4, w.6, w.7) in
     let test : ℕ → Bool = λ q. not (gone_at k e q) && points_at k e q o in
-    list_any_at test (range_with_len 0 (count_of k e)) p 0 (omega (arith, w.3, length-range_with_len 0 (count_of k e))) (ap test at ∙ and_from _ _ (not_from_false _ w.5) points)
+    list_any_at test (range_with_len 0 (count_of k e)) p 0 (omega (arith, w.3, length-range_with_len 0 (count_of k e)))
+    (ap test at ∙ and_from _ _ (not_from_false _ w.5) points)
 
 root_test : (roots : List ℕ) (o : ℕ) → Contains roots o → list_any (λ r. eqb r o) roots ≡ true
 root_test roots o w = list_any_at (λ r. eqb r o) roots w.0 o w.1 (eq-eqb (get_or roots w.0 o) o w.2)
@@ -127,12 +133,17 @@ root_test roots o w = list_any_at (λ r. eqb r o) roots w.0 o w.1 (eq-eqb (get_o
 pub held_means : HeldMeans
 held_means k roots e o = (
   λ h. elim (or_cases (ltb o k || list_any (λ r. eqb r o) roots) (list_any (λ p. not (gone_at k e p) && points_at k e p o) (range_with_len 0 (count_of k e))) h) [
-    | inl first ↦ elim (or_cases (ltb o k) (list_any (λ r. eqb r o) roots) first) [ inl class ↦ inl (ltb-true o k class) | inr root ↦ inr (inl (in_roots roots o root)) ]
+    | inl first ↦ elim (or_cases (ltb o k) (list_any (λ r. eqb r o) roots) first)
+        [ inl class ↦ inl (ltb-true o k class) | inr root ↦ inr (inl (in_roots roots o root)) ]
     | inr slot ↦ inr (inr (in_slot k e o slot))
   ],
   λ h. elim h [
     | inl class ↦ or_left _ _ (or_left _ _ (lt-ltb o k class))
-    | inr other ↦ elim other [ inl root ↦ or_left _ _ (or_right (ltb o k) _ (root_test roots o root)) | inr slot ↦ or_right (ltb o k || list_any (λ r. eqb r o) roots) _ (by_object k e o slot) ]
+    | inr other ↦ elim other [
+      | inl root ↦ or_left _ _ (or_right (ltb o k) _ (root_test roots o root))
+      | inr slot ↦ or_right
+          (ltb o k || list_any (λ r. eqb r o) roots) _ (by_object k e o slot)
+    ]
   ],
 )
 
@@ -157,9 +168,11 @@ count_later k (Wrote p j v ∷ later) before = count_later k later before
 count_later k (Collected roots ∷ later) before = count_later k later before
 count_later k (Went p ∷ later) before = count_later k later before
 
-kept : (k : ℕ) (later before : List Event) (o j : ℕ) → o < count_of k before → AllByRecursion (Spares o j) later → value_at k (later ++ before) o j ≡ value_at k before o j
+kept : (k : ℕ) (later before : List Event) (o j : ℕ) → o < count_of k before → AllByRecursion (Spares o j) later
+    → value_at k (later ++ before) o j ≡ value_at k before o j
 kept k [] before o j h s = refl
-kept k (Made m ∷ later) before o j h s = cond-false _ _ _ (ne_eqb o (count_of k (later ++ before)) (λ same. omega (arith, count_later k later before))) ∙ kept k later before o j h s.1
+kept k (Made m ∷ later) before o j h s = cond-false _ _ _ (ne_eqb o (count_of k (later ++ before)) (λ same. omega (arith, count_later k later before)))
+    ∙ kept k later before o j h s.1
 kept k (Wrote p i v ∷ later) before o j h s = cond-false _ _ _ s.0 ∙ kept k later before o j h s.1
 kept k (Collected roots ∷ later) before o j h s = kept k later before o j h s.1
 kept k (Went p ∷ later) before o j h s = kept k later before o j h s.1
@@ -197,7 +210,8 @@ value_passes test k (Went p ∷ e) o j first w = value_passes test k e o j first
 -- ---- regions
 
 -- the first write of a region is the oldest
-region_from : (o j : ℕ) (v : ℤ) (values : List ℤ) (e : List Event) → region_writes o j (v ∷ values) ++ e ≡ region_writes o (j + 1) values ++ Wrote o j (Number v) ∷ e
+region_from : (o j : ℕ) (v : ℤ) (values : List ℤ) (e : List Event)
+    → region_writes o j (v ∷ values) ++ e ≡ region_writes o (j + 1) values ++ Wrote o j (Number v) ∷ e
 region_from o j v values e = append_assoc (region_writes o (j + 1) values) (Wrote o j (Number v) ∷ []) e
 
 spared : (o j p i n : ℕ) → (p ≢ o) ⊎ ((i < j) ⊎ (j + suc n ≤ i)) → ((p ≢ o) ⊎ ((i < j + 1) ⊎ (j + 1 + n ≤ i))) × ((eqb p o && eqb i j) ≡ false)
@@ -230,7 +244,8 @@ region_written k e o j (v ∷ values) (suc i) h =
 pub region_keeps : RegionKeeps
 region_keeps k e o j [] = record { count = refl; making = λ p. refl; gone = λ p. refl }
 region_keeps k e o j (v ∷ values) =
-    let later : KeepsObjects k (Wrote o j (Number v) ∷ e) (region_writes o (j + 1) values ++ Wrote o j (Number v) ∷ e) = region_keeps k (Wrote o j (Number v) ∷ e) o (j + 1) values in
+    let later : KeepsObjects k (Wrote o j (Number v) ∷ e) (region_writes o (j + 1) values ++ Wrote o j (Number v) ∷ e) =
+    region_keeps k (Wrote o j (Number v) ∷ e) o (j + 1) values in
     let is : region_writes o j (v ∷ values) ++ e ≡ region_writes o (j + 1) values ++ Wrote o j (Number v) ∷ e = region_from o j v values e in
     record {
       count = ap (count_of k) is ∙ later.count;
@@ -244,10 +259,13 @@ abbrev goes : ℕ → List ℕ → List Event → ℕ → Bool
 goes k roots e o = not (gone_at k e o) && not (held_at k roots e o)
 
 -- whether an object is among those that go
-going_any : (k : ℕ) (roots : List ℕ) (e : List Event) (o : ℕ) → list_any (λ r. eqb r o) (going k roots e) ≡ (goes k roots e o && list_any (λ r. eqb r o) (range_with_len 0 (count_of k e)))
-going_any k roots e o = any-filter_same (λ r. eqb r o) (goes k roots e) (goes k roots e o) (λ r t. ap (goes k roots e) (eqb-true r o t)) (range_with_len 0 (count_of k e))
+going_any : (k : ℕ) (roots : List ℕ) (e : List Event) (o : ℕ)
+    → list_any (λ r. eqb r o) (going k roots e) ≡ (goes k roots e o && list_any (λ r. eqb r o) (range_with_len 0 (count_of k e)))
+going_any k roots e o = any-filter_same (λ r. eqb r o) (goes k roots e) (goes k roots e o) (λ r t. ap (goes k roots e) (eqb-true r o t))
+    (range_with_len 0 (count_of k e))
 
-goes_now : (k : ℕ) (roots : List ℕ) (e : List Event) (o : ℕ) → Contains (going k roots e) o → (gone_at k e o ≡ false) × (gone_at k (Collected roots ∷ e) o ≡ true)
+goes_now : (k : ℕ) (roots : List ℕ) (e : List Event) (o : ℕ) → Contains (going k roots e) o
+    → (gone_at k e o ≡ false) × (gone_at k (Collected roots ∷ e) o ≡ true)
 goes_now k roots e o w =
     let parts = and_parts (goes k roots e o) _ (sym (going_any k roots e o) ∙ root_test (going k roots e) o w) in
     let both = and_parts _ _ parts.0 in
@@ -307,5 +325,6 @@ roots_mean is_held n o h = kept_any is_held n o h
 pub going_bounded : GoingIsBounded
 going_bounded k roots e =
     let n : length (range_with_len 0 (count_of k e)) ≡ count_of k e = length-range_with_len 0 (count_of k e) in
-    let m : length (going k roots e) ≤ length (range_with_len 0 (count_of k e)) = length-filter-most (λ o. not (gone_at k e o) && not (held_at k roots e o)) (range_with_len 0 (count_of k e)) in
+    let m : length (going k roots e) ≤ length (range_with_len 0 (count_of k e)) =
+    length-filter-most (λ o. not (gone_at k e o) && not (held_at k roots e o)) (range_with_len 0 (count_of k e)) in
     omega arith

@@ -35,7 +35,8 @@ one_gone true true false false free = refl
 one_gone true false false true free = refl
 one_gone true false false false free = refl
 
-one_stays : (old was here held : Bool) → (here ≡ true → ((old && not (was && not held)) && not held) ≡ false) → (old && not (was && not held)) ≡ (old && not ((was || here) && not held))
+one_stays : (old was here held : Bool) → (here ≡ true → ((old && not (was && not held)) && not held) ≡ false)
+    → (old && not (was && not held)) ≡ (old && not ((was || here) && not held))
 one_stays false was here held stays = refl
 one_stays true true here held stays = refl
 one_stays true false false held stays = refl
@@ -58,14 +59,16 @@ module _ (held : ℕ → Bool) where
   more_any objects i o = list_any-append (λ p. eqb p o) objects (i ∷ []) ∙ ap (λ b. list_any (λ p. eqb p o) objects || b) (or-false (eqb i o))
 
   -- one more goes
-  pub lets_go : (objects : List ℕ) (old cur : List Bool) (i : ℕ) → i < length cur → LetsGo held objects old cur → held i ≡ false → LetsGo held (objects ++ i ∷ []) old (set cur i false)
+  pub lets_go : (objects : List ℕ) (old cur : List Bool) (i : ℕ) → i < length cur → LetsGo held objects old cur → held i ≡ false
+      → LetsGo held (objects ++ i ∷ []) old (set cur i false)
   lets_go objects old cur i within lets free o =
       unset_at cur i o within ∙ ap (λ b. b && not (eqb i o)) (lets o)
       ∙ one_gone (get_or old o false) (list_any (λ p. eqb p o) objects) (eqb i o) (held o) (λ here. ap held (sym (eqb-true i o here)) ∙ free)
       ∙ ap (λ b. get_or old o false && not (b && not (held o))) (sym (more_any objects i o))
 
   -- one more stays, or was gone
-  pub lets_stay : (objects : List ℕ) (old cur : List Bool) (i : ℕ) → LetsGo held objects old cur → (get_or cur i false && not (held i)) ≡ false → LetsGo held (objects ++ i ∷ []) old cur
+  pub lets_stay : (objects : List ℕ) (old cur : List Bool) (i : ℕ) → LetsGo held objects old cur → (get_or cur i false && not (held i)) ≡ false
+      → LetsGo held (objects ++ i ∷ []) old cur
   lets_stay objects old cur i lets stay o =
       lets o
       ∙ one_stays (get_or old o false) (list_any (λ p. eqb p o) objects) (eqb i o) (held o)
@@ -73,18 +76,21 @@ module _ (held : ℕ → Bool) where
       ∙ ap (λ b. get_or old o false && not (b && not (held o))) (sym (more_any objects i o))
 
   -- some, and then others
-  pub lets_both : (first later : List ℕ) (old mid new : List Bool) → LetsGo held first old mid → LetsGo held later mid new → LetsGo held (first ++ later) old new
+  pub lets_both : (first later : List ℕ) (old mid new : List Bool) → LetsGo held first old mid → LetsGo held later mid new
+      → LetsGo held (first ++ later) old new
   lets_both first later old mid new one two o =
       two o ∙ ap (λ b. b && not (list_any (λ p. eqb p o) later && not (held o))) (one o)
       ∙ both_gone (get_or old o false) (list_any (λ p. eqb p o) first) (list_any (λ p. eqb p o) later) (held o)
       ∙ ap (λ b. get_or old o false && not (b && not (held o))) (sym (list_any-append (λ p. eqb p o) first later))
 
   -- the objects in a row up to one more
-  pub lets_row : (first i : ℕ) (old cur : List Bool) → first ≤ i → LetsGo held (range_with_len first (i - first) ++ i ∷ []) old cur → LetsGo held (range_with_len first (i + 1 - first)) old cur
+  pub lets_row : (first i : ℕ) (old cur : List Bool) → first ≤ i → LetsGo held (range_with_len first (i - first) ++ i ∷ []) old cur
+      → LetsGo held (range_with_len first (i + 1 - first)) old cur
   lets_row first i old cur from lets =
       let last : first + (i - first) ≡ i = omega (arith, from) in
       let count : i + 1 - first ≡ i - first + 1 = omega (arith, from) in
-      subst (λ os. LetsGo held os old cur) (sym (ap (range_with_len first) count ∙ range_more first (i - first) ∙ ap (λ o. range_with_len first (i - first) ++ o ∷ []) last)) lets
+      subst (λ os. LetsGo held os old cur)
+      (sym (ap (range_with_len first) count ∙ range_more first (i - first) ∙ ap (λ o. range_with_len first (i - first) ++ o ∷ []) last)) lets
 
   pub lets_start : (first : ℕ) (old : List Bool) → LetsGo held (range_with_len first (first - first)) old old
   lets_start first old = let none : first - first ≡ 0 = omega arith in subst (λ n. LetsGo held (range_with_len first n) old old) (sym none) (lets_none old)
@@ -128,13 +134,15 @@ trues_map f (o ∷ os) =
     ]
 
 -- as many are true as are in being
-pub trues_live : {A : Type 0} (bodies : List (Body A)) (there : List Bool) → length there ≡ length bodies → trues there ≡ length (live_in (map row_of (objects_of bodies there)))
+pub trues_live : {A : Type 0} (bodies : List (Body A)) (there : List Bool) → length there ≡ length bodies
+    → trues there ≡ length (live_in (map row_of (objects_of bodies there)))
 trues_live bodies there same =
     let rows : List Row = map row_of (objects_of bodies there) in
     let count : length rows ≡ length bodies = length-map (objects_of bodies there) row_of ∙ length-objects_of bodies there same in
     let flags : there ≡ map (is_there rows) (range_with_len 0 (length rows)) =
     fill_by_all (is_there rows) there (length rows) false (omega (arith, same, count))
-    (λ o h. ap (λ bs. get_or bs o false) (being_of bodies there same) ∙ there_at (objects_of bodies there) o (omega (arith, h, length-map (objects_of bodies there) row_of))) in
+    (λ o h. ap (λ bs. get_or bs o false) (being_of bodies there same)
+    ∙ there_at (objects_of bodies there) o (omega (arith, h, length-map (objects_of bodies there) row_of))) in
     ap trues flags ∙ trues_map (is_there rows) (range_with_len 0 (length rows))
 
 -- ---- a collection
@@ -147,12 +155,14 @@ held_both false true slot = refl
 held_both false false true = refl
 held_both false false false = refl
 
-kept_or_gone : (there held listed : Bool) (flag : Bool) → flag ≡ (there && not (listed && not held)) → (there ≡ true → listed ≡ true) → flag ≡ (there && not (there && not held))
+kept_or_gone : (there held listed : Bool) (flag : Bool) → flag ≡ (there && not (listed && not held)) → (there ≡ true → listed ≡ true)
+    → flag ≡ (there && not (there && not held))
 kept_or_gone false held listed flag is all = is
 kept_or_gone true held listed flag is all = is ∙ ap (λ b. not (b && not held)) (all refl)
 
 module _ {A : Type 0} (bodies : List (Body A)) (there flags marks : List Bool) (root : ℕ → Bool) (blocks : List ℕ) (loose : ℕ) (pointing : List ℕ)
-    (stored : Stored bodies there blocks loose pointing) (count : length flags ≡ length there) (lets : LetsGo (marked_or_root marks root) (numbers_in blocks loose (length there)) there flags) where
+    (stored : Stored bodies there blocks loose pointing) (count : length flags ≡ length there)
+    (lets : LetsGo (marked_or_root marks root) (numbers_in blocks loose (length there)) there flags) where
   abbrev pub n : ℕ
   n = length there
 
@@ -179,7 +189,8 @@ module _ {A : Type 0} (bodies : List (Body A)) (there flags marks : List Bool) (
   marked_at o h = get_or-map-range_with_len held 0 n o o false h (omega arith)
 
   being_at : (o : ℕ) → o < n → get_or there o false ≡ is_there rows o
-  being_at o h = ap (λ bs. get_or bs o false) (being_of bodies there same) ∙ there_at (objects_of bodies there) o (omega (arith, h, same, length-objects_of bodies there same))
+  being_at o h = ap (λ bs. get_or bs o false) (being_of bodies there same)
+      ∙ there_at (objects_of bodies there) o (omega (arith, h, same, length-objects_of bodies there same))
 
   within : (o : ℕ) → get_or there o false ≡ true → o < n
   within o is = elim (cases_lt o n) [ inl h ↦ h | inr past ↦ absurd (cc (is, get_or_past there o false past)) ]
@@ -189,7 +200,8 @@ module _ {A : Type 0} (bodies : List (Body A)) (there flags marks : List Bool) (
   among o is =
       let being : ℕ → Bool = λ p. get_or there p false in
       let live : list_any (λ p. eqb p o) (filter being (numbers_in blocks loose n)) ≡ true =
-      ap (list_any (λ p. eqb p o)) stored.keeps.live ∙ kept_any (is_there rows) (length rows) o (omega (arith, within o is, count_rows)) ∙ sym (being_at o (within o is)) ∙ is in
+      ap (list_any (λ p. eqb p o)) stored.keeps.live ∙ kept_any (is_there rows) (length rows) o (omega (arith, within o is, count_rows))
+      ∙ sym (being_at o (within o is)) ∙ is in
       list_any_implies (λ p. being p && eqb p o) (λ p. eqb p o) (λ p both. last_of (being p) (eqb p o) both) (numbers_in blocks loose n)
       (sym (any_filter (λ p. eqb p o) being (numbers_in blocks loose n)) ∙ live)
     where
@@ -199,7 +211,8 @@ module _ {A : Type 0} (bodies : List (Body A)) (there flags marks : List Bool) (
 
   listed_at : (o : ℕ) → o < n → list_any (λ p. eqb p o) unheld ≡ (is_there rows o && not (held o))
   listed_at o h =
-      goes_listed rows marked unheld o refl ∙ goes_now rows (λ p. get_or marked p false) o (omega (arith, h, count_rows)) ∙ ap (λ b. is_there rows o && not b) (marked_at o h)
+      goes_listed rows marked unheld o refl ∙ goes_now rows (λ p. get_or marked p false) o (omega (arith, h, count_rows))
+      ∙ ap (λ b. is_there rows o && not b) (marked_at o h)
 
   -- just those that are in being and not held go
   pub goes : (o : ℕ) → get_or flags o false ≡ (get_or there o false && not (list_any (λ p. eqb p o) unheld))
@@ -207,7 +220,8 @@ module _ {A : Type 0} (bodies : List (Body A)) (there flags marks : List Bool) (
       let flag : get_or flags o false ≡ (get_or there o false && not (get_or there o false && not (held o))) =
       kept_or_gone (get_or there o false) (held o) (list_any (λ p. eqb p o) (numbers_in blocks loose n)) (get_or flags o false) (lets o) (among o) in
       elim (cases_Bool (get_or there o false)) [
-        | inl is ↦ flag ∙ ap (λ b. get_or there o false && not (b && not (held o))) (being_at o (within o is)) ∙ ap (λ b. get_or there o false && not b) (sym (listed_at o (within o is)))
+        | inl is ↦ flag ∙ ap (λ b. get_or there o false && not (b && not (held o))) (being_at o (within o is))
+            ∙ ap (λ b. get_or there o false && not b) (sym (listed_at o (within o is)))
         | inr out ↦ flag ∙ ap (λ b. b && not (get_or there o false && not (held o))) out ∙ ap (λ b. b && not (list_any (λ p. eqb p o) unheld)) (sym out)
       ]
 
@@ -226,7 +240,8 @@ module _ {A : Type 0} (bodies : List (Body A)) (there flags marks : List Bool) (
       let objects : List (Object A) = objects_of bodies there in
       let all : All (λ p. p < length objects) pointing = pointing_within objects objects there blocks loose pointing pointing refl refl stored.keeps in
       stored_swept bodies there marked unheld same refl flags count goes blocks after loose pointing points stored closed whole
-      (point ∙ keep_alike held (λ o. get_or marked o false) pointing (λ i d h. sym (marked_at (get_or pointing i d) (omega (arith, all i d h, same, length-objects_of bodies there same)))))
+      (point ∙ keep_alike held (λ o. get_or marked o false) pointing
+      (λ i d h. sym (marked_at (get_or pointing i d) (omega (arith, all i d h, same, length-objects_of bodies there same)))))
 
   module _ (store : Rows) (k : ℕ) (e : List Event) (view : record { classes = k; objects = rows } ≡ store) (stands : Stands store e)
       (marks_are : (o : ℕ) → o < n → get_or marks o false ≡ (ltb o k || list_any (slot_of_row_holds rows o) pointing)) where
@@ -260,7 +275,8 @@ module _ {A : Type 0} (bodies : List (Body A)) (there flags marks : List Bool) (
         marks_of items items there blocks loose pointing pointing store k e roots of_roots of_classes marked refl refl stored.keeps view stands
         (length-map-range_with_len (λ o. root o || ltb o k) 0 n ∙ sym (length-map-range_with_len root 0 n))
         (length-map-range_with_len held 0 n ∙ sym (length-map-range_with_len (λ o. root o || ltb o k) 0 n))
-        (λ o h. let below : o < n = omega (arith, h, length-map-range_with_len root 0 n) in classes_at o below ∙ ap (λ b. b || ltb o k) (sym (roots_at o below)))
+        (λ o h. let below : o < n = omega (arith, h, length-map-range_with_len root 0 n)
+        in classes_at o below ∙ ap (λ b. b || ltb o k) (sym (roots_at o below)))
         (λ o h. let below : o < n = omega (arith, h, length-map-range_with_len (λ p. root p || ltb p k) 0 n) in
         marked_at o below ∙ ap (λ b. b || root o) (marks_are o below) ∙ held_both (root o) (ltb o k) (list_any (slot_of_row_holds rows o) pointing)
         ∙ ap (λ b. b || list_any (slot_of_row_holds rows o) pointing) (sym (classes_at o below)))

@@ -1,3 +1,4 @@
+mod Bytes
 pub mod Lists
 mod Blocks
 pub mod Items

@@ -15,11 +15,13 @@ map_replicate f (suc n) x = ap (λ xs. f x ∷ xs) (map_replicate f n x)
 -- what passes one test passes another
 pub list_any_implies : {A : Type 0} (p q : A → Bool) → ((x : A) → p x ≡ true → q x ≡ true) → (xs : List A) → list_any p xs ≡ true → list_any q xs ≡ true
 list_any_implies p q h [] t = t
-list_any_implies p q h (x ∷ xs) t = elim (or_cases (p x) (list_any p xs) t) [ inl here ↦ or_left _ _ (h x here) | inr later ↦ or_right (q x) _ (list_any_implies p q h xs later) ]
+list_any_implies p q h (x ∷ xs) t =
+    elim (or_cases (p x) (list_any p xs) t) [ inl here ↦ or_left _ _ (h x here) | inr later ↦ or_right (q x) _ (list_any_implies p q h xs later) ]
 
 -- two functions that agree below n make one list
 pub map_agree : {X : Type 0} (f g : ℕ → X) (n : ℕ) (d : X) → ((p : ℕ) → p < n → f p ≡ g p) → map f (range_with_len 0 n) ≡ map g (range_with_len 0 n)
-map_agree f g n d h = fill_by_all g (map f (range_with_len 0 n)) n d (length-map-range_with_len f 0 n) (λ p l. get_or-map-range_with_len f 0 n p p d l (omega arith) ∙ h p l)
+map_agree f g n d h = fill_by_all g (map f (range_with_len 0 n)) n d (length-map-range_with_len f 0 n)
+    (λ p l. get_or-map-range_with_len f 0 n p p d l (omega arith) ∙ h p l)
 
 pub filter_filter : {X : Type 0} (p q : X → Bool) (xs : List X) → filter p (filter q xs) ≡ filter (λ x. q x && p x) xs
 filter_filter p q [] = refl

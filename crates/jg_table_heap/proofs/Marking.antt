@@ -9,7 +9,8 @@ use Rattle.jg_lists.proofs.Marks.{marks_stay, marks_more}
 use Rattle.jg_lists.proofs.Visited.{marks_alike}
 
 -- what a mark within the list is
-pub mark_is : (test : ℕ → Bool) (old new : List Bool) → Marks test (slice_get old) (slice_get new) → (o : ℕ) → o < length old → get_or new o false ≡ (get_or old o false || test o)
+pub mark_is : (test : ℕ → Bool) (old new : List Bool) → Marks test (slice_get old) (slice_get new) → (o : ℕ) → o < length old
+    → get_or new o false ≡ (get_or old o false || test o)
 mark_is test old new marks o within =
     get_or_from_slice_get new o (get_or old o false || test o) false (marks o ∙ ap (option_map (λ m. m || test o)) (slice_get-get_or old o false within))
 

@@ -32,11 +32,13 @@ byte_stands items i x n h e = let P : Option ℕ → Type 0 = λ y. IsByteAt ite
 one_stands : (items : List ℤ) (at u : ℕ) (x : Option ℕ) → IsByteAt items at x → One u x → drop at items ≡ map pos (spelling u) ++ drop (at + 1) items
 one_stands items at u x p w = drop_at items at (pos u) (byte_stands items at x u p w.first) ∙ rw (spelling_one u w.above w.below) refl
 
-two_stands : (items : List ℤ) (at u : ℕ) (x y : Option ℕ) → IsByteAt items at x → IsByteAt items (at + 1) y → Two u x y → drop at items ≡ map pos (spelling u) ++ drop (at + 2) items
+two_stands : (items : List ℤ) (at u : ℕ) (x y : Option ℕ) → IsByteAt items at x → IsByteAt items (at + 1) y → Two u x y
+    → drop at items ≡ map pos (spelling u) ++ drop (at + 2) items
 two_stands items at u x y p q w =
     let next : at + 1 + 1 ≡ at + 2 = omega arith in
     drop_at items at (pos (192 + w.high)) (byte_stands items at x (192 + w.high) p w.first)
-    ∙ ap (λ (t : List ℤ). pos (192 + w.high) ∷ t) (drop_at items (at + 1) (pos (128 + w.low)) (byte_stands items (at + 1) y (128 + w.low) q w.second) ∙ ap (λ n. pos (128 + w.low) ∷ drop n items) next)
+    ∙ ap (λ (t : List ℤ). pos (192 + w.high) ∷ t) (drop_at items (at + 1) (pos (128 + w.low)) (byte_stands items (at + 1) y (128 + w.low) q w.second)
+    ∙ ap (λ n. pos (128 + w.low) ∷ drop n items) next)
     ∙ rw (spelling_two u w.high w.low w.is w.small w.below w.other) refl
 
 three_stands : (items : List ℤ) (at u : ℕ) (x y z : Option ℕ) → IsByteAt items at x → IsByteAt items (at + 1) y → IsByteAt items (at + 2) z → Three u x y z
@@ -46,12 +48,14 @@ three_stands items at u x y z p q r w =
     let after : at + 2 + 1 ≡ at + 3 = omega arith in
     drop_at items at (pos (224 + w.high)) (byte_stands items at x (224 + w.high) p w.first)
     ∙ ap (λ (t : List ℤ). pos (224 + w.high) ∷ t) (drop_at items (at + 1) (pos (128 + w.middle)) (byte_stands items (at + 1) y (128 + w.middle) q w.second)
-    ∙ ap (λ (t : List ℤ). pos (128 + w.middle) ∷ t) (ap (λ n. drop n items) next ∙ drop_at items (at + 2) (pos (128 + w.low)) (byte_stands items (at + 2) z (128 + w.low) r w.third)
+    ∙ ap (λ (t : List ℤ). pos (128 + w.middle) ∷ t)
+    (ap (λ n. drop n items) next ∙ drop_at items (at + 2) (pos (128 + w.low)) (byte_stands items (at + 2) z (128 + w.low) r w.third)
     ∙ ap (λ n. pos (128 + w.low) ∷ drop n items) after))
     ∙ rw (spelling_three u w.high w.middle w.low w.is w.small w.small_middle w.above) refl
 
 -- what stands at a place, and how long it is
-stands : (items : List ℤ) (at u len : ℕ) (x y z : Option ℕ) → IsByteAt items at x → IsByteAt items (at + 1) y → IsByteAt items (at + 2) z → u < 2 ^ 16 → Starts u x y z → len ≡ length (spelling u)
+stands : (items : List ℤ) (at u len : ℕ) (x y z : Option ℕ) → IsByteAt items at x → IsByteAt items (at + 1) y → IsByteAt items (at + 2) z → u < 2 ^ 16
+    → Starts u x y z → len ≡ length (spelling u)
     → drop at items ≡ map pos (spelling u) ++ drop (at + len) items
 stands items at u len x y z p q r below s n =
     elim (forms u x y z below s) [
@@ -73,7 +77,8 @@ shape u =
       | inr above ↦ inr (inr above)
     ]
 
-found_one : (items : List ℤ) (at u : ℕ) (tail : List ℤ) (x : Option ℕ) → IsByteAt items at x → 0 < u → u < 128 → drop at items ≡ map pos (spelling u) ++ tail → One u x
+found_one : (items : List ℤ) (at u : ℕ) (tail : List ℤ) (x : Option ℕ) → IsByteAt items at x → 0 < u → u < 128 → drop at items ≡ map pos (spelling u) ++ tail
+    → One u x
 found_one items at u tail x p above below h =
     let is : drop at items ≡ pos u ∷ tail = h ∙ rw (spelling_one u above below) refl in
     record { above = above; below = below; first = byte_is items at x u p (omega arith) (at_drop items at (pos u) tail is).0 }
@@ -81,7 +86,8 @@ found_one items at u tail x p above below h =
 found_two : (items : List ℤ) (at u : ℕ) (tail : List ℤ) (x y : Option ℕ) → IsByteAt items at x → IsByteAt items (at + 1) y → u < 2048 → (u ≡ 0) ⊎ (128 ≤ u)
     → drop at items ≡ map pos (spelling u) ++ tail → Two u x y
 found_two items at u tail x y p q below other h =
-    let is : drop at items ≡ pos (192 + u / 64) ∷ pos (128 + u % 64) ∷ tail = h ∙ rw (spelling_two u (u / 64) (u % 64) (omega arith) (omega arith) below other) refl in
+    let is : drop at items ≡ pos (192 + u / 64) ∷ pos (128 + u % 64) ∷ tail =
+    h ∙ rw (spelling_two u (u / 64) (u % 64) (omega arith) (omega arith) below other) refl in
     let first = at_drop items at (pos (192 + u / 64)) (pos (128 + u % 64) ∷ tail) is in
     let second = at_drop items (at + 1) (pos (128 + u % 64)) tail first.1 in
     record {
@@ -95,7 +101,8 @@ found_two items at u tail x y p q below other h =
       second = byte_is items (at + 1) y (128 + u % 64) q (omega arith) second.0;
     }
 
-found_three : (items : List ℤ) (at u : ℕ) (tail : List ℤ) (x y z : Option ℕ) → IsByteAt items at x → IsByteAt items (at + 1) y → IsByteAt items (at + 2) z → 2048 ≤ u → u < 2 ^ 16
+found_three : (items : List ℤ) (at u : ℕ) (tail : List ℤ) (x y z : Option ℕ) → IsByteAt items at x → IsByteAt items (at + 1) y → IsByteAt items (at + 2) z
+    → 2048 ≤ u → u < 2 ^ 16
     → drop at items ≡ map pos (spelling u) ++ tail → Three u x y z
 found_three items at u tail x y z p q r above below h =
     let is : drop at items ≡ pos (224 + u / 4096) ∷ pos (128 + u / 64 % 64) ∷ pos (128 + u % 64) ∷ tail =
@@ -118,7 +125,8 @@ found_three items at u tail x y z p q r above below h =
       third = byte_is items (at + 2) z (128 + u % 64) r (omega arith) third.0;
     }
 
-pub is_found : (items : List ℤ) (at u : ℕ) (tail : List ℤ) (x y z : Option ℕ) → IsByteAt items at x → IsByteAt items (at + 1) y → IsByteAt items (at + 2) z → u < 2 ^ 16
+pub is_found : (items : List ℤ) (at u : ℕ) (tail : List ℤ) (x y z : Option ℕ) → IsByteAt items at x → IsByteAt items (at + 1) y → IsByteAt items (at + 2) z
+    → u < 2 ^ 16
     → drop at items ≡ map pos (spelling u) ++ tail → Starts u x y z
 is_found items at u tail x y z p q r below h =
     elim (shape u) [
@@ -163,7 +171,8 @@ same_three u v x y z a b =
       | inl w ↦ (let e = w.first in let is : v ≡ 224 + a.high = cc in absurd (omega arith))
       | inr more ↦ elim more [
         | inl w ↦ (let e = w.first in let is : 192 + w.high ≡ 224 + a.high = cc in absurd (omega arith))
-        | inr w ↦ (let e = w.first in let f = w.second in let g = w.third in let is : 224 + w.high ≡ 224 + a.high = cc in let middle : 128 + w.middle ≡ 128 + a.middle = cc in
+        | inr w ↦ (let e = w.first in let f = w.second in let g = w.third in let is : 224 + w.high ≡ 224 + a.high = cc
+            in let middle : 128 + w.middle ≡ 128 + a.middle = cc in
             let low : 128 + w.low ≡ 128 + a.low = cc in omega arith)
       ]
     ]
@@ -180,12 +189,14 @@ same_unit u v x y z a b s t =
 abbrev Found : Option ℕ → Option ℕ → Option ℕ → ℕ × ℕ → Type 0
 Found x y z unit = (unit.0 < 2 ^ 16) × Starts unit.0 x y z × (unit.1 ≡ length (spelling unit.0))
 
-pub next_found : (items : List ℤ) (at : ℕ) (x y z : Option ℕ) (r : Option (ℕ × ℕ)) → IsByteAt items at x → IsByteAt items (at + 1) y → IsByteAt items (at + 2) z → IfSome r (Found x y z)
+pub next_found : (items : List ℤ) (at : ℕ) (x y z : Option ℕ) (r : Option (ℕ × ℕ)) → IsByteAt items at x → IsByteAt items (at + 1) y → IsByteAt items (at + 2) z
+    → IfSome r (Found x y z)
     → IfSome r (λ unit. (unit.0 < 2 ^ 16) × (drop at items ≡ map pos (spelling unit.0) ++ drop (at + unit.1) items))
 next_found items at x y z None p q r f = tt
 next_found items at x y z (Some u) p q r f = (f.0, stands items at u.0 u.1 x y z p q r f.0 f.1 f.2)
 
-pub next_only : (items : List ℤ) (at : ℕ) (x y z : Option ℕ) (r : Option (ℕ × ℕ)) → IsByteAt items at x → IsByteAt items (at + 1) y → IsByteAt items (at + 2) z → IfSome r (Found x y z)
+pub next_only : (items : List ℤ) (at : ℕ) (x y z : Option ℕ) (r : Option (ℕ × ℕ)) → IsByteAt items at x → IsByteAt items (at + 1) y → IsByteAt items (at + 2) z
+    → IfSome r (Found x y z)
     → IfSome r (λ unit. (v : ℕ) (tail : List ℤ) → v < 2 ^ 16 → drop at items ≡ map pos (spelling v) ++ tail → unit.0 ≡ v)
 next_only items at x y z None p q r f = tt
 next_only items at x y z (Some u) p q r f = λ v tail below h. same_unit u.0 v x y z f.0 below f.1 (is_found items at v tail x y z p q r below h)
@@ -201,11 +212,13 @@ positive u below =
       ]
     ]
 
-pub next_len : (items : List ℤ) (at : ℕ) (x y z : Option ℕ) (r : Option (ℕ × ℕ)) → IsByteAt items at x → IsByteAt items (at + 1) y → IsByteAt items (at + 2) z → at < length items
+pub next_len : (items : List ℤ) (at : ℕ) (x y z : Option ℕ) (r : Option (ℕ × ℕ)) → IsByteAt items at x → IsByteAt items (at + 1) y → IsByteAt items (at + 2) z
+    → at < length items
     → IfSome r (Found x y z) → IfSome r (λ unit. (0 < unit.1) × (at + unit.1 ≤ length items))
 next_len items at x y z None p q r h f = tt
 next_len items at x y z (Some u) p q r h f =
-    let n : length (drop at items) ≡ length (map pos (spelling u.0)) + length (drop (at + u.1) items) = ap length (stands items at u.0 u.1 x y z p q r f.0 f.1 f.2)
+    let n : length (drop at items) ≡ length (map pos (spelling u.0)) + length (drop (at + u.1) items) =
+    ap length (stands items at u.0 u.1 x y z p q r f.0 f.1 f.2)
     ∙ length-append (map pos (spelling u.0)) (drop (at + u.1) items) in
     (rw f.2 (positive u.0 f.0), omega (arith, length-map (spelling u.0) pos, length-drop at items, f.2))
 

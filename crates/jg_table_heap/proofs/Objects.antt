@@ -30,9 +30,11 @@ module _ {A : Type 0} where
   being_of [] [] same = refl
   being_of [] (is ∷ there) same = absurd (omega (arith, same))
   being_of (b ∷ bodies) [] same = absurd (omega (arith, same))
-  being_of (b ∷ bodies) (is ∷ there) same = ap (λ t. t ∷ there) (sym (not-not is)) ∙ ap (λ (l : List Bool). not (not is) ∷ l) (being_of bodies there (omega (arith, same)))
+  being_of (b ∷ bodies) (is ∷ there) same =
+      ap (λ t. t ∷ there) (sym (not-not is)) ∙ ap (λ (l : List Bool). not (not is) ∷ l) (being_of bodies there (omega (arith, same)))
 
-  pub pointing_of : (bodies : List (Body A)) (there : List Bool) → length there ≡ length bodies → map may_point (objects_of bodies there) ≡ map body_may_point bodies
+  pub pointing_of : (bodies : List (Body A)) (there : List Bool) → length there ≡ length bodies
+      → map may_point (objects_of bodies there) ≡ map body_may_point bodies
   pointing_of [] there same = refl
   pointing_of (b ∷ bodies) [] same = absurd (omega (arith, same))
   pointing_of (b ∷ bodies) (is ∷ there) same = ap (λ (l : List Bool). body_may_point b ∷ l) (pointing_of bodies there (omega (arith, same)))
@@ -65,7 +67,8 @@ module _ {A : Type 0} where
   made_of (x ∷ bodies) (t ∷ there) b same = ap (λ (l : List (Object A)). record { body = x; gone = not t } ∷ l) (made_of bodies there b (omega (arith, same)))
 
   -- with an object more, as the code comes upon it
-  pub more_of : (bodies more : List (Body A)) (there flags : List Bool) (b : Body A) → length there ≡ length bodies → more ≡ bodies ++ b ∷ [] → flags ≡ there ++ true ∷ []
+  pub more_of : (bodies more : List (Body A)) (there flags : List Bool) (b : Body A) → length there ≡ length bodies → more ≡ bodies ++ b ∷ []
+      → flags ≡ there ++ true ∷ []
       → objects_of more flags ≡ objects_of bodies there ++ record { body = b; gone = false } ∷ []
   more_of bodies more there flags b same is flag =
       ap (λ (xs : List (Body A)). objects_of xs flags) is ∙ ap (objects_of (bodies ++ b ∷ [])) flag ∙ made_of bodies there b same
@@ -73,11 +76,14 @@ module _ {A : Type 0} where
   pub stored_made : (bodies more : List (Body A)) (there flags : List Bool) (blocks after : List ℕ) (loose rest : ℕ)
       (pointing points : List ℕ) (b : Body A) (n : ℕ) → Stored bodies there blocks loose pointing
       → more ≡ bodies ++ b ∷ []
-      → n ≡ length bodies → flags ≡ there ++ true ∷ [] → numbers_in after rest (n + 1) ≡ numbers_in blocks loose (n + 1) → (AreWhole blocks (n + 1) → AreWhole after (n + 1)) → rest ≤ n + 1
+      → n ≡ length bodies → flags ≡ there ++ true ∷ [] → numbers_in after rest (n + 1) ≡ numbers_in blocks loose (n + 1)
+      → (AreWhole blocks (n + 1) → AreWhole after (n + 1)) → rest ≤ n + 1
       → points ≡ pointing ++ cond (body_may_point b) (n ∷ []) [] → Stored more flags after rest points
   stored_made bodies more there flags blocks after loose rest pointing points b n stored is len flag same whole order point = record {
-    same = ap (λ (ts : List Bool). length ts) flag ∙ length-append there (true ∷ []) ∙ ap (λ k. k + 1) stored.same ∙ sym (ap (λ (xs : List (Body A)). length xs) is ∙ length-append bodies (b ∷ []));
-    keeps = keeps_made (objects_of bodies there) (objects_of more flags) there flags blocks after loose rest pointing points (record { body = b; gone = false }) n stored.keeps
+    same = ap (λ (ts : List Bool). length ts) flag ∙ length-append there (true ∷ []) ∙ ap (λ k. k + 1) stored.same
+        ∙ sym (ap (λ (xs : List (Body A)). length xs) is ∙ length-append bodies (b ∷ []));
+    keeps = keeps_made (objects_of bodies there) (objects_of more flags) there flags blocks after loose rest pointing points (record { body = b; gone = false })
+        n stored.keeps
         (more_of bodies more there flags b stored.same is flag) refl (len ∙ sym (length-objects_of bodies there stored.same)) flag same whole order point;
   }
 
@@ -89,8 +95,10 @@ module _ {A : Type 0} where
   gone_of (x ∷ bodies) (u ∷ there) zero t same within is = ap not is
   gone_of (x ∷ bodies) (u ∷ there) (suc i) t same within is = gone_of bodies there i t (omega (arith, same)) (omega (arith, within)) is
 
-  count_of_objects : (bodies : List (Body A)) (there : List Bool) (objects : List Row) → length there ≡ length bodies → map row_of (objects_of bodies there) ≡ objects → length objects ≡ length bodies
-  count_of_objects bodies there objects same view = sym (ap (λ (rs : List Row). length rs) view) ∙ length-map (objects_of bodies there) row_of ∙ length-objects_of bodies there same
+  count_of_objects : (bodies : List (Body A)) (there : List Bool) (objects : List Row) → length there ≡ length bodies
+      → map row_of (objects_of bodies there) ≡ objects → length objects ≡ length bodies
+  count_of_objects bodies there objects same view = sym (ap (λ (rs : List Row). length rs) view) ∙ length-map (objects_of bodies there) row_of
+      ∙ length-objects_of bodies there same
 
   pub made_body : (bodies : List (Body A)) (there : List Bool) (objects : List Row) (o : ℕ)
       → length there ≡ length bodies → map row_of (objects_of bodies there) ≡ objects → o < length objects
@@ -134,7 +142,8 @@ module _ {A : Type 0} where
   -- the objects that are let go
   pub ended_of : (bodies : List (Body A)) (old new : List Bool) (goes : ℕ → Bool) → length old ≡ length bodies
       → length new ≡ length bodies → ((o : ℕ) → get_or new o false ≡ (get_or old o false && not (goes o)))
-      → ((o : ℕ) → length bodies ≤ o → goes o ≡ false) → (o : ℕ) → row_in (map row_of (objects_of bodies new)) o ≡ ended_row (goes o) (row_in (map row_of (objects_of bodies old)) o)
+      → ((o : ℕ) → length bodies ≤ o → goes o ≡ false) → (o : ℕ)
+      → row_in (map row_of (objects_of bodies new)) o ≡ ended_row (goes o) (row_in (map row_of (objects_of bodies old)) o)
   ended_of [] old new goes before after ends past o = ended_none no_row ∙ ap (λ b. ended_row b no_row) (sym (past o (omega arith)))
   ended_of (x ∷ bodies) [] new goes before after ends past o = absurd (omega (arith, before))
   ended_of (x ∷ bodies) (t ∷ old) [] goes before after ends past o = absurd (omega (arith, after))
@@ -173,7 +182,8 @@ unset_at there p o within =
       | inl same ↦
           ap (λ q. get_or (set there p false) q false) (sym same) ∙ get_or-set_same there p false false within
           ∙ none (get_or there o false) ∙ ap (λ b. get_or there o false && not b) (sym (eq-eqb p o same))
-      | inr other ↦ get_or-set_other there p o false false (λ same. other (sym same)) ∙ stays (get_or there o false) ∙ ap (λ b. get_or there o false && not b) (sym (ne_eqb p o other))
+      | inr other ↦ get_or-set_other there p o false false (λ same. other (sym same)) ∙ stays (get_or there o false)
+          ∙ ap (λ b. get_or there o false && not b) (sym (ne_eqb p o other))
     ]
 
 -- none is let go
@@ -198,20 +208,27 @@ module _ {A : Type 0} (bodies : List (Body A)) (there : List Bool) (marks : List
   all_of =
       let objects : List (Object A) = objects_of bodies there in
       let all : All (λ p. p < length objects) unheld =
-      subst (All (λ p. p < length objects)) (sym listed) (All-filter (λ o. not (get_or marks o false)) (λ p. p < length objects) (live_in (map row_of objects)) (all_below objects)) in
+      subst (All (λ p. p < length objects)) (sym listed)
+      (All-filter (λ o. not (get_or marks o false)) (λ p. p < length objects) (live_in (map row_of objects)) (all_below objects)) in
       λ i d h. omega (arith, all i d h, same, length-objects_of bodies there same)
 
-  module _ (flags : List Bool) (count : length flags ≡ length there) (goes : (o : ℕ) → get_or flags o false ≡ (get_or there o false && not (list_any (λ p. eqb p o) unheld))) where
-    pub swept_of : (o : ℕ) → row_in (map row_of (objects_of bodies flags)) o ≡ ended_row (list_any (λ p. eqb p o) unheld) (row_in (map row_of (objects_of bodies there)) o)
-    swept_of o = ended_of bodies there flags (λ q. list_any (λ p. eqb p q) unheld) same (count ∙ same) goes (λ q past. none_past unheld (length there) q all_of (omega (arith, past, same))) o
+  module _ (flags : List Bool) (count : length flags ≡ length there) (goes : (o : ℕ)
+      → get_or flags o false ≡ (get_or there o false && not (list_any (λ p. eqb p o) unheld))) where
+    pub swept_of : (o : ℕ) → row_in (map row_of (objects_of bodies flags)) o
+        ≡ ended_row (list_any (λ p. eqb p o) unheld) (row_in (map row_of (objects_of bodies there)) o)
+    swept_of o = ended_of bodies there flags (λ q. list_any (λ p. eqb p q) unheld) same (count ∙ same) goes
+        (λ q past. none_past unheld (length there) q all_of (omega (arith, past, same))) o
 
     pub stored_swept : (blocks after : List ℕ) (loose : ℕ) (pointing points : List ℕ) → Stored bodies there blocks loose pointing
-        → filter (λ o. get_or flags o false) (numbers_in after loose (length flags)) ≡ filter (λ o. get_or flags o false) (numbers_in blocks loose (length flags))
+        → filter (λ o. get_or flags o false) (numbers_in after loose (length flags))
+        ≡ filter (λ o. get_or flags o false) (numbers_in blocks loose (length flags))
         → AreWhole after (length flags) → points ≡ filter (λ o. get_or marks o false) pointing → Stored bodies flags after loose points
     stored_swept blocks after loose pointing points stored closed whole point = record {
       same = count ∙ same;
-      keeps = keeps_swept (objects_of bodies there) (objects_of bodies flags) there flags blocks after loose pointing points (λ o. get_or marks o false) stored.keeps
+      keeps = keeps_swept (objects_of bodies there) (objects_of bodies flags) there flags blocks after loose pointing points (λ o. get_or marks o false)
+          stored.keeps
           (length-objects_of bodies flags (count ∙ same) ∙ sym (length-objects_of bodies there same))
-          (λ o. swept_of o ∙ ap (λ b. ended_row b (row_in (map row_of (objects_of bodies there)) o)) (goes_listed (map row_of (objects_of bodies there)) marks unheld o listed))
+          (λ o. swept_of o ∙ ap (λ b. ended_row b (row_in (map row_of (objects_of bodies there)) o))
+          (goes_listed (map row_of (objects_of bodies there)) marks unheld o listed))
           (pointing_of bodies flags (count ∙ same) ∙ sym (pointing_of bodies there same)) (being_of bodies flags (count ∙ same)) closed whole point;
     }

@@ -45,7 +45,8 @@ first_holds o (Text units) j h t = absurd (omega arith)
 first_holds o (Filled class n item) j h t = t
 first_holds o (Opaque class n) j h t = absurd (false≢true t)
 
-wrote_it : (k : ℕ) (e : List Event) (p o j : ℕ) → j < slots_in (making_at k e p) → holds o (value_at k e p j) ≡ true → (ev : Event) → writes p j ev ≡ true → wrote_for k e p o ev ≡ true
+wrote_it : (k : ℕ) (e : List Event) (p o j : ℕ) → j < slots_in (making_at k e p) → holds o (value_at k e p j) ≡ true → (ev : Event) → writes p j ev ≡ true
+    → wrote_for k e p o ev ≡ true
 wrote_it k e p o j h t (Made m) w = absurd (false≢true w)
 wrote_it k e p o j h t (Wrote q i v) w =
     let parts = and_parts _ _ w in

@@ -37,7 +37,14 @@ overwritten_more xs j v vs within =
 pub length-overwritten : {X : Type 0} (xs : List X) (j : ℕ) (vs : List X) → j + length vs ≤ length xs
     → length (overwritten xs j vs) ≡ length xs
 length-overwritten xs j vs within =
-    omega (arith, length-append (take j xs ++ vs) (drop (j + length vs) xs), length-append (take j xs) vs, length-take-le j xs (omega arith), length-drop (j + length vs) xs)
+    omega (
+      arith,
+      length-append (take j xs ++ vs) (drop (j + length vs) xs),
+      length-append (take j xs) vs,
+      length-take-le j xs (omega arith),
+      length-drop
+          (j + length vs) xs,
+    )
 
 -- ---- rows
 
@@ -66,6 +73,7 @@ standing_region k e o j (v ∷ vs) made within =
     ∙ standing_region k after o (j + 1) vs made (omega arith)
     ∙ ap (λ (rs : List Row). set rs o (with_region (row_at k after o) (j + 1) rest)) (standing_wrote k e o j (Number v) made here)
     ∙ set-set (standing k e) o (with_slot (row_at k e o) j (Number v)) (with_region (row_at k after o) (j + 1) rest)
-    ∙ ap (set (standing k e) o) (ap (λ (r : Row). with_region r (j + 1) rest) (row_wrote_here k e o j (Number v) here) ∙ region_more (row_at k e o) j (Number v) rest here_too)
+    ∙ ap (set (standing k e) o) (ap (λ (r : Row). with_region r (j + 1) rest) (row_wrote_here k e o j (Number v) here)
+    ∙ region_more (row_at k e o) j (Number v) rest here_too)
 
 pub ruleset regions = (overwritten_map)

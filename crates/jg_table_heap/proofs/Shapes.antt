@@ -11,10 +11,12 @@ pub spelling_two : (u high low : ℕ) → u ≡ high * 64 + low → low < 64 →
 spelling_two u high low is small below other =
     let h : u / 64 ≡ high = omega arith in
     let l : u % 64 ≡ low = omega arith in
-    let not_one : (ltb 0 u && ltb u 128) ≡ false = elim other [ inl zero ↦ and_left _ _ (le-ltb 0 u (omega arith)) | inr big ↦ and_right _ _ (le-ltb u 128 big) ] in
+    let not_one : (ltb 0 u && ltb u 128) ≡ false =
+    elim other [ inl zero ↦ and_left _ _ (le-ltb 0 u (omega arith)) | inr big ↦ and_right _ _ (le-ltb u 128 big) ] in
     cond-false _ _ _ not_one ∙ cond-true _ _ _ (lt-ltb u 2048 below) ∙ rw (h, l) refl
 
-pub spelling_three : (u high middle low : ℕ) → u ≡ high * 4096 + middle * 64 + low → low < 64 → middle < 64 → 2048 ≤ u → spelling u ≡ (224 + high) ∷ (128 + middle) ∷ (128 + low) ∷ []
+pub spelling_three : (u high middle low : ℕ) → u ≡ high * 4096 + middle * 64 + low → low < 64 → middle < 64 → 2048 ≤ u
+    → spelling u ≡ (224 + high) ∷ (128 + middle) ∷ (128 + low) ∷ []
 spelling_three u high middle low is small small_middle above =
     let h : u / 4096 ≡ high = omega arith in
     let m : u / 64 % 64 ≡ middle = omega arith in
@@ -22,7 +24,8 @@ spelling_three u high middle low is small small_middle above =
     cond-false _ _ _ (and_right _ _ (le-ltb u 128 (omega arith))) ∙ cond-false _ _ _ (le-ltb u 2048 above) ∙ rw (h, m, l) refl
 
 pub spelling_short : (u : ℕ) → ((0 < u) × (128 ≤ u)) ⊎ (u ≤ 0) → u < 2048 → spelling u ≡ (192 + u / 64) ∷ (128 + u % 64) ∷ []
-spelling_short u either below = spelling_two u (u / 64) (u % 64) (omega arith) (omega arith) below (elim either [ inl both ↦ inr both.1 | inr zero ↦ inl (omega arith) ])
+spelling_short u either below =
+    spelling_two u (u / 64) (u % 64) (omega arith) (omega arith) below (elim either [ inl both ↦ inr both.1 | inr zero ↦ inl (omega arith) ])
 
 pub spelling_long : (u : ℕ) → 2048 ≤ u → spelling u ≡ (224 + u / 4096) ∷ (128 + u / 64 % 64) ∷ (128 + u % 64) ∷ []
 spelling_long u above = spelling_three u (u / 4096) (u / 64 % 64) (u % 64) (omega arith) (omega arith) (omega arith) above
@@ -54,7 +57,20 @@ three_is : (u : ℕ) (x y z : Option ℕ) → 2048 ≤ u → u < 2 ^ 16 → Star
 unfolding Starts
 three_is u x y z a b s =
     let at = rw (spelling_three u (u / 4096) (u / 64 % 64) (u % 64) (omega arith) (omega arith) (omega arith) a) at s in
-    record { high = u / 4096; middle = u / 64 % 64; low = u % 64; small = omega arith; small_middle = omega arith; is = omega arith; above = a; below = b; first = at.0; second = at.1; third = at.2 }
+    record {
+      high = u / 4096;
+      middle = u / 64 % 64;
+      low = u % 64;
+      small = omega arith;
+      small_middle = omega arith;
+      is = omega arith;
+      above = a;
+      below =
+          b;
+      first = at.0;
+      second = at.1;
+      third = at.2;
+    }
 
 pub forms : (u : ℕ) (x y z : Option ℕ) → u < 2 ^ 16 → Starts u x y z → One u x ⊎ (Two u x y ⊎ Three u x y z)
 forms u x y z fits s =

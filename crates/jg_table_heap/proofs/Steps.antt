@@ -59,7 +59,8 @@ slots_made_new : (k : ℕ) (m : Making) (e : List Event) → slots_at k (Made m 
 unfolding slots_at
 slots_made_new k m e =
     ap (λ (w : Making). map (value_at k (Made m ∷ e) (count_of k e)) (range_with_len 0 (slots_in w))) (making_made_new k m e)
-    ∙ sym (fill_by_all (value_at k (Made m ∷ e) (count_of k e)) (first_slots m) (slots_in m) (Number (pos 0)) (length-first_slots m) (λ j l. get_or-first_slots m j l ∙ sym (value_made_new k m e j)))
+    ∙ sym (fill_by_all (value_at k (Made m ∷ e) (count_of k e)) (first_slots m) (slots_in m) (Number (pos 0)) (length-first_slots m)
+    (λ j l. get_or-first_slots m j l ∙ sym (value_made_new k m e j)))
 
 -- what isn't made yet isn't gone
 pub gone_past : (k : ℕ) (e : List Event) (o : ℕ) → count_of k e ≤ o → gone_at k e o ≡ false
@@ -73,12 +74,14 @@ row_made_old : (k : ℕ) (m : Making) (e : List Event) (o : ℕ) → o ≢ count
 unfolding row_at
 row_made_old k m e o h =
     ap (λ (w : Making). record { class = class_in w; units = units_in w; slots = slots_at k (Made m ∷ e) o; gone = gone_at k e o }) (making_made_old k m e o h)
-    ∙ ap (λ (s : List Slot). record { class = class_in (making_at k e o); units = units_in (making_at k e o); slots = s; gone = gone_at k e o }) (slots_made_old k m e o h)
+    ∙ ap (λ (s : List Slot). record { class = class_in (making_at k e o); units = units_in (making_at k e o); slots = s; gone = gone_at k e o })
+    (slots_made_old k m e o h)
 
 row_made_new : (k : ℕ) (m : Making) (e : List Event) → row_at k (Made m ∷ e) (count_of k e) ≡ row_of_making m
 unfolding row_at
 row_made_new k m e =
-    ap (λ (w : Making). record { class = class_in w; units = units_in w; slots = slots_at k (Made m ∷ e) (count_of k e); gone = gone_at k e (count_of k e) }) (making_made_new k m e)
+    ap (λ (w : Making). record { class = class_in w; units = units_in w; slots = slots_at k (Made m ∷ e) (count_of k e); gone = gone_at k e (count_of k e) })
+    (making_made_new k m e)
     ∙ ap (λ (s : List Slot). record { class = class_in m; units = units_in m; slots = s; gone = gone_at k e (count_of k e) }) (slots_made_new k m e)
     ∙ ap (λ (b : Bool). record { class = class_in m; units = units_in m; slots = first_slots m; gone = b }) (gone_past k e (count_of k e) (omega arith))
 
@@ -87,7 +90,8 @@ pub standing_made : (k : ℕ) (m : Making) (e : List Event) → standing k (Made
 unfolding standing
 standing_made k m e =
     map-range_with_len_more (row_at k (Made m ∷ e)) 0 (count_of k e) (count_of k e) (omega arith)
-    ∙ ap (λ (xs : List Row). xs ++ row_at k (Made m ∷ e) (count_of k e) ∷ []) (map_agree (row_at k (Made m ∷ e)) (row_at k e) (count_of k e) no_row (λ o l. row_made_old k m e o (λ same. omega arith)))
+    ∙ ap (λ (xs : List Row). xs ++ row_at k (Made m ∷ e) (count_of k e) ∷ [])
+    (map_agree (row_at k (Made m ∷ e)) (row_at k e) (count_of k e) no_row (λ o l. row_made_old k m e o (λ same. omega arith)))
     ∙ ap (λ (r : Row). standing k e ++ r ∷ []) (row_made_new k m e)
 
 -- ---- writing
@@ -103,14 +107,16 @@ value_wrote_object k e o j p i v h = rw (ne_eqb p o h) refl
 
 slots_wrote_object : (k : ℕ) (e : List Event) (o j p : ℕ) (v : Slot) → p ≢ o → slots_at k (Wrote o j v ∷ e) p ≡ slots_at k e p
 unfolding slots_at
-slots_wrote_object k e o j p v h = map_agree (value_at k (Wrote o j v ∷ e) p) (value_at k e p) (slots_in (making_at k e p)) (Number (pos 0)) (λ i l. value_wrote_object k e o j p i v h)
+slots_wrote_object k e o j p v h =
+    map_agree (value_at k (Wrote o j v ∷ e) p) (value_at k e p) (slots_in (making_at k e p)) (Number (pos 0)) (λ i l. value_wrote_object k e o j p i v h)
 
 value_wrote_any : (k : ℕ) (e : List Event) (o j i : ℕ) (v : Slot) → j < length (slots_at k e o) → i < length (slots_at k e o)
     → get_or (set (slots_at k e o) j v) i (Number (pos 0)) ≡ value_at k (Wrote o j v ∷ e) o i
 value_wrote_any k e o j i v h l =
     let n : length (slots_at k e o) ≡ slots_in (making_at k e o) = length-slots_at k e o in
     elim (cases_eq i j) [
-      | inl same ↦ ap (λ n. get_or (set (slots_at k e o) j v) n (Number (pos 0))) same ∙ rw get_or-set_same (sym (value_wrote_here k e o j v)) ∙ ap (value_at k (Wrote o j v ∷ e) o) (sym same)
+      | inl same ↦ ap (λ n. get_or (set (slots_at k e o) j v) n (Number (pos 0))) same ∙ rw get_or-set_same (sym (value_wrote_here k e o j v))
+          ∙ ap (value_at k (Wrote o j v ∷ e) o) (sym same)
       | inr other ↦ rw get_or-set_other (get_or-slots_at k e o i (Number (pos 0)) (omega arith) ∙ sym (value_wrote_slot k e o j i v other))
     ]
 
@@ -119,7 +125,8 @@ slots_wrote_here k e o j v h =
     let n : length (set (slots_at k e o) j v) ≡ slots_in (making_at k e o) = length-set (slots_at k e o) j v ∙ length-slots_at k e o in
     let m : length (slots_at k e o) ≡ slots_in (making_at k e o) = length-slots_at k e o in
     slots_at_is k (Wrote o j v ∷ e) o
-    ∙ sym (fill_by_all (value_at k (Wrote o j v ∷ e) o) (set (slots_at k e o) j v) (slots_in (making_at k e o)) (Number (pos 0)) n (λ i l. value_wrote_any k e o j i v h (omega arith)))
+    ∙ sym (fill_by_all (value_at k (Wrote o j v ∷ e) o) (set (slots_at k e o) j v) (slots_in (making_at k e o)) (Number (pos 0)) n
+    (λ i l. value_wrote_any k e o j i v h (omega arith)))
 
 row_wrote_object : (k : ℕ) (e : List Event) (o j p : ℕ) (v : Slot) → p ≢ o → row_at k (Wrote o j v ∷ e) p ≡ row_at k e p
 unfolding row_at
@@ -141,8 +148,11 @@ row_wrote_any k e o j p v in' h l =
     ]
 
 -- one row with one slot written
-pub standing_wrote : (k : ℕ) (e : List Event) (o j : ℕ) (v : Slot) → o < count_of k e → j < length (slots_at k e o) → standing k (Wrote o j v ∷ e) ≡ set (standing k e) o (with_slot (row_at k e o) j v)
+pub standing_wrote : (k : ℕ) (e : List Event) (o j : ℕ) (v : Slot) → o < count_of k e → j < length (slots_at k e o)
+    → standing k (Wrote o j v ∷ e) ≡ set (standing k e) o (with_slot (row_at k e o) j v)
 standing_wrote k e o j v in' h =
-    let n : length (set (standing k e) o (with_slot (row_at k e o) j v)) ≡ count_of k e = length-set (standing k e) o (with_slot (row_at k e o) j v) ∙ length-standing k e in
+    let n : length (set (standing k e) o (with_slot (row_at k e o) j v)) ≡ count_of k e = length-set (standing k e) o (with_slot (row_at k e o) j v)
+    ∙ length-standing k e in
     standing_is k (Wrote o j v ∷ e)
-    ∙ sym (fill_by_all (row_at k (Wrote o j v ∷ e)) (set (standing k e) o (with_slot (row_at k e o) j v)) (count_of k e) no_row n (λ p l. row_wrote_any k e o j p v in' h l))
+    ∙ sym (fill_by_all (row_at k (Wrote o j v ∷ e)) (set (standing k e) o (with_slot (row_at k e o) j v)) (count_of k e) no_row n
+    (λ p l. row_wrote_any k e o j p v in' h l))

@@ -37,18 +37,21 @@ live_below rows = kept_below (λ o. not (row_in rows o).gone) (length rows)
 
 live_same : (f g : List Row) → length f ≡ length g → ((o : ℕ) → o < length g → (row_in f o).gone ≡ (row_in g o).gone) → live_in f ≡ live_in g
 live_same f g len h =
-    ap (λ n. filter (λ o. not (row_in f o).gone) (range_with_len 0 n)) len ∙ keep_agree (λ o. not (row_in f o).gone) (λ o. not (row_in g o).gone) 0 (length g) (λ o l. ap not (h o (omega arith)))
+    ap (λ n. filter (λ o. not (row_in f o).gone) (range_with_len 0 n)) len
+    ∙ keep_agree (λ o. not (row_in f o).gone) (λ o. not (row_in g o).gone) 0 (length g) (λ o l. ap not (h o (omega arith)))
 
 pub all_below : {A : Type 0} (items : List (Object A)) → All (λ p. p < length items) (live_in (map row_of items))
 all_below items = subst (λ n. All (λ p. p < n) (live_in (map row_of items))) (length-map items row_of) (live_below (map row_of items))
 
 -- all of them are numbers of objects
-pub within : {A : Type 0} (items before : List (Object A)) (live kept : List ℕ) → before ≡ items → live ≡ kept → All (λ p. p < length items) kept → All (λ p. p < length before) live
+pub within : {A : Type 0} (items before : List (Object A)) (live kept : List ℕ) → before ≡ items → live ≡ kept → All (λ p. p < length items) kept
+    → All (λ p. p < length before) live
 within items before live kept is same all =
     subst (λ (os : List ℕ). All (λ p. p < length before) os) (sym same) (subst (λ (xs : List (Object _)). All (λ p. p < length xs) kept) (sym is) all)
 
 -- which of the first objects go
-pub goes_now : (rows : List Row) (marked : ℕ → Bool) (o : ℕ) → o < length rows → list_any (λ p. not (marked p) && eqb p o) (live_in rows) ≡ (not (row_in rows o).gone && not (marked o))
+pub goes_now : (rows : List Row) (marked : ℕ → Bool) (o : ℕ) → o < length rows
+    → list_any (λ p. not (marked p) && eqb p o) (live_in rows) ≡ (not (row_in rows o).gone && not (marked o))
 goes_now rows marked o h =
     sym (any_filter (λ p. eqb p o) (λ p. not (marked p)) (live_in rows))
     ∙ ap (list_any (λ p. eqb p o)) (filter_filter (λ p. not (marked p)) (λ p. not (row_in rows p).gone) (range_with_len 0 (length rows)))
@@ -61,14 +64,16 @@ pub live_swept : (old new : List Row) (marked : ℕ → Bool) → length new ≡
 live_swept old new marked len ended =
     filter_filter marked (λ o. not (row_in old o).gone) (range_with_len 0 (length old))
     ∙ keep_agree (λ o. not (row_in old o).gone && marked o) (λ o. not (row_in new o).gone) 0 (length old)
-    (λ o l. stays_alike (row_in old o).gone (marked o) ∙ ap (λ b. not ((row_in old o).gone || b)) (sym (goes_now old marked o (omega arith))) ∙ ap (λ (r : Row). not r.gone) (sym (ended o)))
+    (λ o l. stays_alike (row_in old o).gone (marked o) ∙ ap (λ b. not ((row_in old o).gone || b)) (sym (goes_now old marked o (omega arith)))
+    ∙ ap (λ (r : Row). not r.gone) (sym (ended o)))
     ∙ ap (λ n. filter (λ o. not (row_in new o).gone) (range_with_len 0 n)) (sym len)
 
 -- what is there after it was there before, and marked
 there_after : (old new : List Row) (marked : ℕ → Bool) (o : ℕ) → o < length old
     → row_in new o ≡ ended_row (list_any (λ p. not (marked p) && eqb p o) (live_in old)) (row_in old o) → is_there new o ≡ (is_there old o && marked o)
 there_after old new marked o within ended =
-    ap (λ (r : Row). not r.gone) ended ∙ ap (λ b. not ((row_in old o).gone || b)) (goes_now old marked o within) ∙ sym (stays_alike (row_in old o).gone (marked o))
+    ap (λ (r : Row). not r.gone) ended ∙ ap (λ b. not ((row_in old o).gone || b)) (goes_now old marked o within)
+    ∙ sym (stays_alike (row_in old o).gone (marked o))
 
 -- the list of those in being, object by object
 pub there_at : {A : Type 0} (items : List (Object A)) (o : ℕ) → o < length items → get_or (map in_being items) o false ≡ is_there (map row_of items) o
@@ -93,7 +98,8 @@ numbers_swept : {A : Type 0} (old new : List (Object A)) (marked : ℕ → Bool)
     → filter (λ o. get_or (map in_being old) o false) numbers ≡ live_in (map row_of old)
     → filter (λ o. get_or (map in_being new) o false) numbers ≡ live_in (map row_of new)
 numbers_swept old new marked numbers len ended is =
-    filter_agree (λ o. get_or (map in_being new) o false) (λ o. get_or (map in_being old) o false && marked o) (λ o. there_swept old new marked len ended o (cases_lt o (length old))) numbers
+    filter_agree (λ o. get_or (map in_being new) o false) (λ o. get_or (map in_being old) o false && marked o)
+    (λ o. there_swept old new marked len ended o (cases_lt o (length old))) numbers
     ∙ sym (filter_filter marked (λ o. get_or (map in_being old) o false) numbers) ∙ ap (filter marked) is
     ∙ live_swept (map row_of old) (map row_of new) marked (length-map new row_of ∙ len ∙ sym (length-map old row_of)) ended
 
@@ -117,7 +123,8 @@ gone_wrote : {A : Type 0} (cur : List (Object A)) (p : ℕ) (x y : Object A) →
     → (o : ℕ) → (row_in (map row_of (set cur p y)) o).gone ≡ (row_in (map row_of cur) o).gone
 gone_wrote cur p x y inside is same o =
     elim (cases_eq o p) [
-      | inl here ↦ ap (λ q. (row_in (map row_of (set cur p y)) q).gone) here ∙ ap (λ (r : Row). r.gone) (row_set cur p y inside) ∙ same ∙ ap (λ (z : Object _). (row_of z).gone) is
+      | inl here ↦ ap (λ q. (row_in (map row_of (set cur p y)) q).gone) here ∙ ap (λ (r : Row). r.gone) (row_set cur p y inside) ∙ same
+          ∙ ap (λ (z : Object _). (row_of z).gone) is
           ∙ ap (λ (r : Row). r.gone) (sym (get_or-map row_of cur p x no_row inside)) ∙ ap (λ q. (row_in (map row_of cur) q).gone) (sym here)
       | inr other ↦ ap (λ (r : Row). r.gone) (row_set_other cur p o y other)
     ]
@@ -125,7 +132,8 @@ gone_wrote cur p x y inside is same o =
 live_wrote : {A : Type 0} (cur : List (Object A)) (p : ℕ) (x y : Object A) → p < length cur → x ≡ get_or cur p x → (row_of y).gone ≡ (row_of x).gone
     → live_in (map row_of (set cur p y)) ≡ live_in (map row_of cur)
 live_wrote cur p x y inside is same =
-    live_same (map row_of (set cur p y)) (map row_of cur) (length-map (set cur p y) row_of ∙ length-set cur p y ∙ sym (length-map cur row_of)) (λ o h. gone_wrote cur p x y inside is same o)
+    live_same (map row_of (set cur p y)) (map row_of cur) (length-map (set cur p y) row_of ∙ length-set cur p y ∙ sym (length-map cur row_of))
+    (λ o h. gone_wrote cur p x y inside is same o)
 
 -- ---- which may point at others
 
@@ -136,7 +144,8 @@ test_set test cur p d y inside same =
     map-set test cur p y ∙ ap (set (map test cur) p) (same ∙ sym (get_or-map test cur p d false inside)) ∙ set-get_or (map test cur) p false
 
 -- with a slot written
-pub keeps_wrote : {A : Type 0} (cur : List (Object A)) (there : List Bool) (blocks : List ℕ) (loose : ℕ) (pointing : List ℕ) (p : ℕ) (x y : Object A) → Keeps cur there blocks loose pointing
+pub keeps_wrote : {A : Type 0} (cur : List (Object A)) (there : List Bool) (blocks : List ℕ) (loose : ℕ) (pointing : List ℕ) (p : ℕ) (x y : Object A)
+    → Keeps cur there blocks loose pointing
     → p < length cur → x ≡ get_or cur p x → (row_of y).gone ≡ (row_of x).gone → may_point y ≡ may_point x → Keeps (set cur p y) there blocks loose pointing
 keeps_wrote cur there blocks loose pointing p x y keeps inside is gone kind =
     let live : live_in (map row_of cur) ≡ live_in (map row_of (set cur p y)) = sym (live_wrote cur p x y inside is gone) in
@@ -145,12 +154,15 @@ keeps_wrote cur there blocks loose pointing p x y keeps inside is gone kind =
       whole = keeps.whole;
       order = keeps.order;
       live = keeps.live ∙ live;
-      pointing = keeps.pointing ∙ ap (λ (bs : List Bool). filter (λ o. get_or bs o false) (live_in (map row_of cur))) (sym (test_set may_point cur p x y inside (kind ∙ ap may_point is)))
+      pointing = keeps.pointing
+          ∙ ap (λ (bs : List Bool). filter (λ o. get_or bs o false) (live_in (map row_of cur)))
+          (sym (test_set may_point cur p x y inside (kind ∙ ap may_point is)))
           ∙ ap (filter (may_point_at (set cur p y))) live;
     }
 
 -- which of those in being may point, with an object made
-pointing_more : {A : Type 0} (items : List (Object A)) (x : Object A) → filter (may_point_at (items ++ x ∷ [])) (live_in (map row_of items) ++ length items ∷ [])
+pointing_more : {A : Type 0} (items : List (Object A)) (x : Object A)
+    → filter (may_point_at (items ++ x ∷ [])) (live_in (map row_of items) ++ length items ∷ [])
     ≡ filter (may_point_at items) (live_in (map row_of items)) ++ cond (may_point x) (length items ∷ []) []
 pointing_more items x =
     let keeps : ℕ → Bool = λ o. not (row_in (map row_of items) o).gone in
@@ -161,7 +173,8 @@ pointing_more items x =
     ∙ ap (λ (os : List ℕ). os ++ filter (may_point_at (items ++ x ∷ [])) (length items ∷ []))
     (filter_filter (may_point_at (items ++ x ∷ [])) keeps (range_with_len 0 (length (map row_of items)))
     ∙ keep_agree (λ o. keeps o && may_point_at (items ++ x ∷ []) o) (λ o. keeps o && may_point_at items o) 0 (length (map row_of items))
-    (λ o h. ap (λ (bs : List Bool). keeps o && get_or bs o false) all ∙ ap (λ b. keeps o && b) (get_or_append_left (map may_point items) (may_point x ∷ []) false o (omega arith)))
+    (λ o h. ap (λ (bs : List Bool). keeps o && get_or bs o false) all
+    ∙ ap (λ b. keeps o && b) (get_or_append_left (map may_point items) (may_point x ∷ []) false o (omega arith)))
     ∙ sym (filter_filter (may_point_at items) keeps (range_with_len 0 (length (map row_of items)))))
     ∙ ap (λ b. filter (may_point_at items) (live_in (map row_of items)) ++ cond b (length items ∷ []) [])
     (ap (λ (bs : List Bool). get_or bs (length items) false) all
@@ -178,12 +191,14 @@ there_more items x numbers fresh within is =
     let test : ℕ → Bool = λ o. get_or (old ++ true ∷ []) o false in
     filter-append test numbers (length items ∷ [])
     ∙ ap (λ (os : List ℕ). os ++ filter test (length items ∷ []))
-    (keep_alike test (λ o. get_or old o false) numbers (λ i d h. get_or_append_left old (true ∷ []) false (get_or numbers i d) (omega (arith, n, within i d h))) ∙ is)
+    (keep_alike test (λ o. get_or old o false) numbers (λ i d h. get_or_append_left old (true ∷ []) false (get_or numbers i d) (omega (arith, n, within i d h)))
+    ∙ is)
     ∙ ap (λ b. live_in (map row_of items) ++ cond b (length items ∷ []) []) (ap test (sym n) ∙ get_or-append_seam old true [] false)
     ∙ ap (λ k. live_in (map row_of items) ++ k ∷ []) (sym (length-map items row_of)) ∙ live_more (map row_of items) (row_of x) fresh
 
 -- with an object made
-pub keeps_made : {A : Type 0} (items more : List (Object A)) (there flags : List Bool) (blocks after : List ℕ) (loose rest : ℕ) (pointing points : List ℕ) (x : Object A) (n : ℕ)
+pub keeps_made : {A : Type 0} (items more : List (Object A)) (there flags : List Bool) (blocks after : List ℕ) (loose rest : ℕ) (pointing points : List ℕ)
+    (x : Object A) (n : ℕ)
     → Keeps items there blocks loose pointing → more ≡ items ++ x ∷ [] → (row_of x).gone ≡ false → n ≡ length items → flags ≡ there ++ true ∷ []
     → numbers_in after rest (n + 1) ≡ numbers_in blocks loose (n + 1) → (AreWhole blocks (n + 1) → AreWhole after (n + 1)) → rest ≤ n + 1
     → points ≡ pointing ++ cond (may_point x) (n ∷ []) [] → Keeps more flags after rest points
@@ -195,7 +210,8 @@ keeps_made items more there flags blocks after loose rest pointing points x n ke
     let count : length flags ≡ n + 1 = ap (λ (bs : List Bool). length bs) flag ∙ length-append there (true ∷ []) ∙ ap (λ k. k + 1) old in
     let before : AreWhole blocks n = subst (AreWhole blocks) old keeps.whole in
     let ordered : loose ≤ n = omega (arith, keeps.order, old) in
-    let within : All (λ o. o < length items) (numbers_in blocks loose n) = subst (λ k. All (λ o. o < k) (numbers_in blocks loose n)) len (numbers_within blocks loose n before ordered) in
+    let within : All (λ o. o < length items) (numbers_in blocks loose n) =
+    subst (λ k. All (λ o. o < k) (numbers_in blocks loose n)) len (numbers_within blocks loose n before ordered) in
     record {
       flags = new ∙ ap (λ b. map in_being items ++ not b ∷ []) (sym fresh) ∙ sym (map-append in_being items (x ∷ [])) ∙ ap (map in_being) (sym is);
       whole = subst (AreWhole after) (sym count) (whole (λ i d h. omega (arith, before i d h)));
@@ -212,11 +228,13 @@ keeps_made items more there flags blocks after loose rest pointing points x n ke
           ∙ ap (λ (os : List ℕ). os ++ cond (may_point x) (length items ∷ []) []) keeps.pointing
           ∙ sym (pointing_more items x)
           ∙ ap (λ (xs : List (Object _)). filter (may_point_at xs) (live_in rows ++ length items ∷ [])) (sym is)
-          ∙ ap (filter (may_point_at more)) (ap (λ k. live_in rows ++ k ∷ []) (sym (length-map items row_of)) ∙ live_more rows (row_of x) fresh ∙ ap live_in (sym all));
+          ∙ ap (filter (may_point_at more)) (ap (λ k. live_in rows ++ k ∷ []) (sym (length-map items row_of)) ∙ live_more rows (row_of x) fresh
+          ∙ ap live_in (sym all));
     }
 
 -- after a collection
-pub keeps_swept : {A : Type 0} (old new : List (Object A)) (there flags : List Bool) (blocks after : List ℕ) (loose : ℕ) (pointing points : List ℕ) (marked : ℕ → Bool)
+pub keeps_swept : {A : Type 0} (old new : List (Object A)) (there flags : List Bool) (blocks after : List ℕ) (loose : ℕ) (pointing points : List ℕ) (marked : ℕ
+    → Bool)
     → Keeps old there blocks loose pointing → length new ≡ length old
     → ((o : ℕ) → row_in (map row_of new) o ≡ ended_row (list_any (λ p. not (marked p) && eqb p o) (live_in (map row_of old))) (row_in (map row_of old) o))
     → map may_point new ≡ map may_point old → flags ≡ map in_being new
@@ -231,22 +249,27 @@ keeps_swept old new there flags blocks after loose pointing points marked keeps 
       flags = is;
       whole = whole;
       order = omega (arith, keeps.order, count);
-      live = closed ∙ ap (λ k. filter (λ o. get_or flags o false) (numbers_in blocks loose k)) count ∙ ap (λ (bs : List Bool). filter (λ o. get_or bs o false) numbers) is
+      live = closed ∙ ap (λ k. filter (λ o. get_or flags o false) (numbers_in blocks loose k)) count
+          ∙ ap (λ (bs : List Bool). filter (λ o. get_or bs o false) numbers) is
           ∙ numbers_swept old new marked numbers len ended (ap (λ (bs : List Bool). filter (λ o. get_or bs o false) numbers) (sym keeps.flags) ∙ keeps.live);
       pointing = point ∙ ap (filter marked) keeps.pointing ∙ filter_swap marked (may_point_at old) (live_in (map row_of old))
           ∙ ap (λ (bs : List Bool). filter (λ o. get_or bs o false) (filter marked (live_in (map row_of old)))) (sym kind)
-          ∙ ap (filter (may_point_at new)) (live_swept (map row_of old) (map row_of new) marked (length-map new row_of ∙ len ∙ sym (length-map old row_of)) ended);
+          ∙ ap (filter (may_point_at new))
+          (live_swept (map row_of old) (map row_of new) marked (length-map new row_of ∙ len ∙ sym (length-map old row_of)) ended);
     }
 
 -- they are numbers of objects too
-pub pointing_within : {A : Type 0} (items before : List (Object A)) (there : List Bool) (blocks : List ℕ) (loose : ℕ) (pointed pointing : List ℕ) → before ≡ items → pointed ≡ pointing
+pub pointing_within : {A : Type 0} (items before : List (Object A)) (there : List Bool) (blocks : List ℕ) (loose : ℕ) (pointed pointing : List ℕ)
+    → before ≡ items → pointed ≡ pointing
     → Keeps items there blocks loose pointing → All (λ p. p < length before) pointed
 pointing_within items before there blocks loose pointed pointing is same keeps =
     within items before pointed pointing is same
-    (subst (All (λ p. p < length items)) (sym keeps.pointing) (All-filter (may_point_at items) (λ p. p < length items) (live_in (map row_of items)) (all_below items)))
+    (subst (All (λ p. p < length items)) (sym keeps.pointing)
+    (All-filter (may_point_at items) (λ p. p < length items) (live_in (map row_of items)) (all_below items)))
 
 -- no other of those in being points at anything
-pub pointing_holds : {A : Type 0} (items : List (Object A)) (there : List Bool) (blocks : List ℕ) (loose : ℕ) (pointing : List ℕ) (o : ℕ) → Keeps items there blocks loose pointing
+pub pointing_holds : {A : Type 0} (items : List (Object A)) (there : List Bool) (blocks : List ℕ) (loose : ℕ) (pointing : List ℕ) (o : ℕ)
+    → Keeps items there blocks loose pointing
     → list_any (slot_of_row_holds (map row_of items) o) pointing ≡ list_any (slot_of_row_holds (map row_of items) o) (live_in (map row_of items))
 pointing_holds items there blocks loose pointing o keeps =
     let rows : List Row = map row_of items in

@@ -70,7 +70,8 @@ row_stands rows e o stands made =
 pub class_stands : (rows : Rows) (e : List Event) (o : ℕ) → Stands rows e → o < count_in rows → class_at rows o ≡ class_in (making_at rows.classes e o)
 class_stands rows e o stands made = ap (λ (r : Row). r.class) (row_stands rows e o stands made) ∙ class-row_at rows.classes e o
 
-pub units_stand : (rows : Rows) (e : List Event) (o : ℕ) → Stands rows e → o < count_in rows → (row_in rows.objects o).units ≡ units_in (making_at rows.classes e o)
+pub units_stand : (rows : Rows) (e : List Event) (o : ℕ) → Stands rows e → o < count_in rows
+    → (row_in rows.objects o).units ≡ units_in (making_at rows.classes e o)
 units_stand rows e o stands made = ap (λ (r : Row). r.units) (row_stands rows e o stands made) ∙ units-row_at rows.classes e o
 
 pub slots_stand : (rows : Rows) (e : List Event) (o : ℕ) → Stands rows e → o < count_in rows → (row_in rows.objects o).slots ≡ slots_at rows.classes e o
@@ -82,20 +83,23 @@ gone_stands rows e o stands made = ap (λ (r : Row). r.gone) (row_stands rows e 
 pub length_stands : (rows : Rows) (e : List Event) (o : ℕ) → Stands rows e → o < count_in rows → length_at rows o ≡ length_in (making_at rows.classes e o)
 length_stands rows e o stands made =
     let u : length (row_in rows.objects o).units ≡ length (units_in (making_at rows.classes e o)) = ap length (units_stand rows e o stands made) in
-    let s : length (row_in rows.objects o).slots ≡ slots_in (making_at rows.classes e o) = ap length (slots_stand rows e o stands made) ∙ length-slots_at rows.classes e o in
+    let s : length (row_in rows.objects o).slots ≡ slots_in (making_at rows.classes e o) =
+    ap length (slots_stand rows e o stands made) ∙ length-slots_at rows.classes e o in
     omega (arith, units_or_slots (making_at rows.classes e o))
 
 -- ---- the objects that the store keeps, against its rows
 
 -- the row of an object that was read at an index
-pub kept : {A : Type 0} (items : List (Object A)) (objects : List Row) (o : ℕ) (x : Object A) → map row_of items ≡ objects → o < length objects → x ≡ get_or items o x → row_of x ≡ row_in objects o
+pub kept : {A : Type 0} (items : List (Object A)) (objects : List Row) (o : ℕ) (x : Object A) → map row_of items ≡ objects → o < length objects
+    → x ≡ get_or items o x → row_of x ≡ row_in objects o
 kept items objects o x view inside is =
     let n : length (map row_of items) ≡ length items = length-map items row_of in
     let m : length (map row_of items) ≡ length objects = ap length view in
     ap row_of is ∙ sym (get_or-map row_of items o x no_row (omega arith)) ∙ ap (λ (r : List Row). row_in r o) view
 
 -- what was read in a slot is its value
-pub value_stands : (rows : Rows) (e : List Event) (o j : ℕ) (v : Slot) → Stands rows e → o < count_in rows → slice_get (row_in rows.objects o).slots j ≡ Some v → v ≡ value_at rows.classes e o j
+pub value_stands : (rows : Rows) (e : List Event) (o j : ℕ) (v : Slot) → Stands rows e → o < count_in rows → slice_get (row_in rows.objects o).slots j ≡ Some v
+    → v ≡ value_at rows.classes e o j
 value_stands rows e o j v stands made read =
     let slots : List Slot = slots_at rows.classes e o in
     let here : slice_get slots j ≡ Some v = ap (λ (xs : List Slot). slice_get xs j) (sym (slots_stand rows e o stands made)) ∙ read in
@@ -116,7 +120,8 @@ slots_by_length rows e o stands made other =
     slots_all (Filled class n item) h = refl
     slots_all (Opaque class n) h = refl
 
-slots_of_other : {A : Type 0} (body : Body A) (j : ℕ) → class_of_body body ≢ 2 → j < length (units_of_body body) + length (slots_of_body body) → j < length (slots_of_body body)
+slots_of_other : {A : Type 0} (body : Body A) (j : ℕ) → class_of_body body ≢ 2 → j < length (units_of_body body) + length (slots_of_body body)
+    → j < length (slots_of_body body)
 slots_of_other Class j h l = omega arith
 slots_of_other (Fields instance) j h l = omega arith
 slots_of_other (Units units) j h l = absurd (h refl)
@@ -124,12 +129,14 @@ slots_of_other (Numbers element items) j h l = omega arith
 slots_of_other (References items) j h l = omega arith
 
 -- an index below the length is that of a slot
-pub slots_within : {A : Type 0} (rows : Rows) (o j : ℕ) (x : Object A) → row_of x ≡ row_in rows.objects o → class_at rows o ≢ 2 → j < length_at rows o → j < length (row_in rows.objects o).slots
+pub slots_within : {A : Type 0} (rows : Rows) (o j : ℕ) (x : Object A) → row_of x ≡ row_in rows.objects o → class_at rows o ≢ 2 → j < length_at rows o
+    → j < length (row_in rows.objects o).slots
 slots_within rows o j x is =
     let P : Row → Type 0 = λ (r : Row). r.class ≢ 2 → j < length r.units + length r.slots → j < length r.slots in
     subst P is (slots_of_other x.body j)
 
-length_of_other : {A : Type 0} (body : Body A) → class_of_body body ≢ 2 → length (units_of_body body) + length (slots_of_body body) ≡ length (slots_of_body body)
+length_of_other : {A : Type 0} (body : Body A) → class_of_body body ≢ 2
+    → length (units_of_body body) + length (slots_of_body body) ≡ length (slots_of_body body)
 length_of_other Class h = refl
 length_of_other (Fields instance) h = omega arith
 length_of_other (Units units) h = absurd (h refl)
@@ -137,7 +144,8 @@ length_of_other (Numbers element items) h = omega arith
 length_of_other (References items) h = omega arith
 
 -- what isn't a string has as many slots as its length says
-pub length_of_slots : {A : Type 0} (rows : Rows) (o : ℕ) (x : Object A) → row_of x ≡ row_in rows.objects o → class_at rows o ≢ 2 → length_at rows o ≡ length (row_in rows.objects o).slots
+pub length_of_slots : {A : Type 0} (rows : Rows) (o : ℕ) (x : Object A) → row_of x ≡ row_in rows.objects o → class_at rows o ≢ 2
+    → length_at rows o ≡ length (row_in rows.objects o).slots
 length_of_slots rows o x is =
     let P : Row → Type 0 = λ (r : Row). r.class ≢ 2 → length r.units + length r.slots ≡ length r.slots in
     subst P is (length_of_other x.body)
@@ -158,7 +166,8 @@ length_of_text (Numbers element items) h = absurd (no_text_class element h)
 length_of_text (References items) h = absurd (omega arith)
 
 -- a string has as many units as its length says
-pub text_length : {A : Type 0} (rows : Rows) (o : ℕ) (x : Object A) → row_of x ≡ row_in rows.objects o → class_at rows o ≡ 2 → length (units_at rows o) ≡ length_at rows o
+pub text_length : {A : Type 0} (rows : Rows) (o : ℕ) (x : Object A) → row_of x ≡ row_in rows.objects o → class_at rows o ≡ 2
+    → length (units_at rows o) ≡ length_at rows o
 text_length rows o x is =
     let P : Row → Type 0 = λ (r : Row). r.class ≡ 2 → length r.units ≡ length r.units + length r.slots in
     subst P is (length_of_text x.body)

@@ -12,11 +12,14 @@ AreUnits-push (x ∷ units) u h b = (h.0, AreUnits-push units u h.1 b)
 pub spelling-push : (units : List ℕ) (u : ℕ) → flat_map spelling (units ++ u ∷ []) ≡ flat_map spelling units ++ spelling u
 spelling-push units u = flat_map-append spelling units (u ∷ []) ∙ ap (λ (xs : List ℕ). flat_map spelling units ++ xs) (append-nil (spelling u))
 
-pub front_more : (items : List ℤ) (units : List ℕ) (at u len : ℕ) → items ≡ map pos (flat_map spelling units) ++ drop at items → drop at items ≡ map pos (spelling u) ++ drop (at + len) items
+pub front_more : (items : List ℤ) (units : List ℕ) (at u len : ℕ) → items ≡ map pos (flat_map spelling units) ++ drop at items
+    → drop at items ≡ map pos (spelling u) ++ drop (at + len) items
     → items ≡ map pos (flat_map spelling (units ++ u ∷ [])) ++ drop (at + len) items
 front_more items units at u len h g =
-    h ∙ ap (λ (xs : List ℤ). map pos (flat_map spelling units) ++ xs) g ∙ sym (append_assoc (map pos (flat_map spelling units)) (map pos (spelling u)) (drop (at + len) items))
-    ∙ ap (λ (xs : List ℤ). xs ++ drop (at + len) items) (sym (map-append pos (flat_map spelling units) (spelling u)) ∙ ap (map pos) (sym (spelling-push units u)))
+    h ∙ ap (λ (xs : List ℤ). map pos (flat_map spelling units) ++ xs) g
+    ∙ sym (append_assoc (map pos (flat_map spelling units)) (map pos (spelling u)) (drop (at + len) items))
+    ∙ ap (λ (xs : List ℤ). xs ++ drop (at + len) items)
+    (sym (map-append pos (flat_map spelling units) (spelling u)) ∙ ap (map pos) (sym (spelling-push units u)))
 
 nonempty : (items : List ℤ) (at : ℕ) → at < length items → drop at items ≡ [] → ⊥
 nonempty items at h e = let n : length (drop at items) ≡ 0 = ap length e in omega (arith, length-drop at items)
@@ -36,7 +39,8 @@ rest_more items at u len h g only (v ∷ tail) s =
     sym g ∙ begins ∙ ap (λ w. map pos (spelling w) ++ map pos (flat_map spelling tail)) (sym same) in
     (tail, (s.0.1, append_cancel_left (map pos (spelling u)) _ _ both))
 
-pub none_left : (items : List ℤ) (at : ℕ) → at < length items → ((v : ℕ) (tail : List ℤ) → v < 2 ^ 16 → drop at items ≡ map pos (spelling v) ++ tail → ⊥) → (tail : List ℕ)
+pub none_left : (items : List ℤ) (at : ℕ) → at < length items → ((v : ℕ) (tail : List ℤ) → v < 2 ^ 16 → drop at items ≡ map pos (spelling v) ++ tail → ⊥)
+    → (tail : List ℕ)
     → IsSpeltInItems tail (drop at items) → ⊥
 none_left items at h none [] s = nonempty items at h s.1
 none_left items at h none (v ∷ tail) s = none v (map pos (flat_map spelling tail)) s.0.0 (s.1 ∙ front_of v tail)

@@ -13,7 +13,7 @@ mod object;
 mod roots;
 
 pub use heap::Heap;
-pub use mutf8::{from_mutf8, from_mutf8_items, is_mutf8, mutf8_len, to_mutf8};
+pub use mutf8::{are_mutf8, from_mutf8, from_mutf8_items, is_mutf8, mutf8_len, to_mutf8};
 pub use number::natural;
 pub use object::{Shape, Slot};
 pub use roots::Roots;

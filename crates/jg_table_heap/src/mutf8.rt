@@ -6,5 +6,5 @@ mod forms;
 mod read;
 mod spell;
 
-pub use read::{from_mutf8, from_mutf8_items, is_mutf8};
+pub use read::{are_mutf8, from_mutf8, from_mutf8_items, is_mutf8};
 pub use spell::{mutf8_len, to_mutf8};

@@ -37,13 +37,15 @@ made_before n k o before (Delete j ∷ later) below = made_before n k o before l
 made_before n k o before (Pop ∷ later) below = made_before n k o before later below
 made_before n k o before (Leave ∷ later) below = made_before n k o before later below
 
-found_below : (t n k : ℕ) (acts : List Act) (row : LocalRow) (found : Option Making) → making k acts ≡ found → IsMadeBelow n acts → Member row (rows_of_local t (local_if_live k found)) → k < n
+found_below : (t n k : ℕ) (acts : List Act) (row : LocalRow) (found : Option Making) → making k acts ≡ found → IsMadeBelow n acts
+    → Member row (rows_of_local t (local_if_live k found)) → k < n
 found_below t n k acts row None is below m = absurd m
 found_below t n k acts row (Some made) is below m =
     let P : List Act → Type 0 = λ xs. IsMadeBelow n xs in
     made_before n k made.object made.before made.later (subst P (making_splits k acts made is) below)
 
-row_below : (rows : Rows) (e : List Event) (t n : ℕ) → Stands rows e → IsMadeBelow n (acts_of t e) → (row : LocalRow) → Member row rows.locals → row.tid ≡ t → row.n < n
+row_below : (rows : Rows) (e : List Event) (t n : ℕ) → Stands rows e → IsMadeBelow n (acts_of t e) → (row : LocalRow) → Member row rows.locals → row.tid ≡ t
+    → row.n < n
 row_below rows e t n stands below row m mine =
     let own : is_local t row.n row ≡ true = grind (arith, nat_tests) in
     let kept = member_filter (is_local t row.n) row rows.locals m own in
@@ -63,7 +65,8 @@ row_of_live : (t k : ℕ) (found : Option Local) → IsSome (object_of found) �
 row_of_live t k None some = cc
 row_of_live t k (Some l) some = (record { tid = t; n = l.n; object = l.object; depth = l.depth; frame = l.frame }, inl refl)
 
-live_below : (rows : Rows) (e : List Event) (t n k : ℕ) → Stands rows e → All (λ row. row.tid ≡ t → row.n < n) rows.locals → IsSome (live k (acts_of t e)) → k < n
+live_below : (rows : Rows) (e : List Event) (t n k : ℕ) → Stands rows e → All (λ row. row.tid ≡ t → row.n < n) rows.locals → IsSome (live k (acts_of t e))
+    → k < n
 live_below rows e t n k stands all some =
     let there = row_of_live t k (live_local k (acts_of t e)) some in
     let row : LocalRow = there.0 in
@@ -75,7 +78,8 @@ live_below rows e t n k stands all some =
     let number : row.n ≡ k = grind (arith, nat_tests) in
     omega (arith, below mine)
 
-below_live : (rows : Rows) (e : List Event) (t n : ℕ) → Stands rows e → ((k : ℕ) → IsSome (live k (acts_of t e)) → k < n) → (row : LocalRow) → Member row rows.locals → row.tid ≡ t → row.n < n
+below_live : (rows : Rows) (e : List Event) (t n : ℕ) → Stands rows e → ((k : ℕ) → IsSome (live k (acts_of t e)) → k < n) → (row : LocalRow)
+    → Member row rows.locals → row.tid ≡ t → row.n < n
 below_live rows e t n stands each row m mine =
     let own : is_local t row.n row ≡ true = grind (arith, nat_tests) in
     let P : List LocalRow → Type 0 = λ l. Member row l in

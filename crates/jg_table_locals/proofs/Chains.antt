@@ -10,7 +10,8 @@ pub each-map : {X : Type 0} (P Q : X → Type 0) → ((x : X) → P x → Q x) �
 each-map P Q f [] all = tt
 each-map P Q f (x ∷ xs) all = (f x all.0, each-map P Q f xs all.1)
 
-pub each-both : {X : Type 0} (P Q R : X → Type 0) → ((x : X) → P x → Q x → R x) → (xs : List X) → AllByRecursion P xs → AllByRecursion Q xs → AllByRecursion R xs
+pub each-both : {X : Type 0} (P Q R : X → Type 0) → ((x : X) → P x → Q x → R x) → (xs : List X) → AllByRecursion P xs → AllByRecursion Q xs
+    → AllByRecursion R xs
 each-both P Q R f [] p q = tt
 each-both P Q R f (x ∷ xs) p q = (f x p.0 q.0, each-both P Q R f xs p.1 q.1)
 
@@ -34,7 +35,8 @@ pub each-filter : {X : Type 0} (P : X → Type 0) (p : X → Bool) (xs : List X)
 each-filter P p [] all = tt
 each-filter P p (x ∷ xs) all = filtered P x (filter p xs) (p x) all.0 (each-filter P p xs all.1)
 
-passed_at : {X : Type 0} (P : X → Type 0) (p : X → Bool) (x : X) (xs : List X) (b : Bool) → p x ≡ b → ((x : X) → p x ≡ true → P x) → AllByRecursion P (filter p xs)
+passed_at : {X : Type 0} (P : X → Type 0) (p : X → Bool) (x : X) (xs : List X) (b : Bool) → p x ≡ b → ((x : X) → p x ≡ true → P x)
+    → AllByRecursion P (filter p xs)
     → AllByRecursion P (if b then x ∷ filter p xs else filter p xs)
 passed_at P p x xs true is f rest = (f x is, rest)
 passed_at P p x xs false is f rest = rest
@@ -59,7 +61,8 @@ chain-end : {X : Type 0} (r : X → X → Bool) (xs : List X) (y : X) → Chain 
 chain-end r [] y chain = tt
 chain-end r (x ∷ xs) y chain = (each-end (λ z. r x z ≡ true) xs y chain.0, chain-end r xs y chain.1)
 
-chain_filtered : {X : Type 0} (r : X → X → Bool) (x : X) (xs : List X) (b : Bool) → AllByRecursion (λ z. r x z ≡ true) xs → Chain r xs → Chain r (if b then x ∷ xs else xs)
+chain_filtered : {X : Type 0} (r : X → X → Bool) (x : X) (xs : List X) (b : Bool) → AllByRecursion (λ z. r x z ≡ true) xs → Chain r xs
+    → Chain r (if b then x ∷ xs else xs)
 chain_filtered r x xs true all chain = (all, chain)
 chain_filtered r x xs false all chain = chain
 
@@ -98,7 +101,8 @@ nil_by xs none (inr found) = let no : None ≡ Some found.1 = sym none ∙ found
 pub last-nil : {X : Type 0} (xs : List X) → last xs ≡ None → xs ≡ []
 last-nil xs none = nil_by xs none (ending xs)
 
-split_by : {X : Type 0} (xs : List X) (y : X) → last xs ≡ Some y → (xs ≡ []) ⊎ ((front : List X) × (z : X) × (xs ≡ front ++ z ∷ []) × (last xs ≡ Some z)) → (front : List X) × (xs ≡ front ++ y ∷ [])
+split_by : {X : Type 0} (xs : List X) (y : X) → last xs ≡ Some y → (xs ≡ []) ⊎ ((front : List X) × (z : X) × (xs ≡ front ++ z ∷ []) × (last xs ≡ Some z))
+    → (front : List X) × (xs ≡ front ++ y ∷ [])
 split_by {X = X} xs y is (inl empty) = let no : Some y ≡ None = sym is ∙ ap last empty in cc
 split_by xs y is (inr found) =
     let same : Some found.1 ≡ Some y = sym found.3 ∙ is in
@@ -109,7 +113,8 @@ pub last-split : {X : Type 0} (xs : List X) (y : X) → last xs ≡ Some y → (
 last-split xs y is = split_by xs y is (ending xs)
 
 -- in a chain each is at or before the last
-pub chain-last : {X : Type 0} (r : X → X → Bool) (P : X → Type 0) (xs : List X) (y : X) → Chain r xs → last xs ≡ Some y → P y → ((x : X) → r x y ≡ true → P x) → AllByRecursion P xs
+pub chain-last : {X : Type 0} (r : X → X → Bool) (P : X → Type 0) (xs : List X) (y : X) → Chain r xs → last xs ≡ Some y → P y → ((x : X) → r x y ≡ true → P x)
+    → AllByRecursion P xs
 chain-last {X = X} r P xs y chain is here earlier =
     let split = last-split xs y is in
     let C : List X → Type 0 = λ l. Chain r l in

@@ -39,13 +39,15 @@ made_at live o s false is was =
     let none : how_many (λ s. is_in s o.frame) (s ∷ []) ≡ 0 = rw there refl in
     omega (arith, parts, none, was)
 
-pub counted_made : (live : List LocalSlot) (os : List Opened) (s : LocalSlot) → Counted live os → Counted (live ++ s ∷ []) (map (at_frame one_more s.depth s.frame) os)
+pub counted_made : (live : List LocalSlot) (os : List Opened) (s : LocalSlot) → Counted live os
+    → Counted (live ++ s ∷ []) (map (at_frame one_more s.depth s.frame) os)
 counted_made live [] s counted = tt
 counted_made live (o ∷ os) s counted = (made_at live o s (is_frame s.depth s.frame o.frame) refl counted.0, counted_made live os s counted.1)
 
 -- ---- a local is ended
 
-ended_at : (live : List LocalSlot) (o : Opened) (s : LocalSlot) (n : ℕ) (b : Bool) → filter (λ s. s.n == n) live ≡ s ∷ [] → is_frame s.depth s.frame o.frame ≡ b → o.held
+ended_at : (live : List LocalSlot) (o : Opened) (s : LocalSlot) (n : ℕ) (b : Bool) → filter (λ s. s.n == n) live ≡ s ∷ [] → is_frame s.depth s.frame o.frame ≡ b
+    → o.held
     ≡ how_many (λ s. is_in s o.frame) live
     → (if b then one_less o else o).held ≡ how_many (λ s. is_in s (if b then one_less o else o).frame) (filter (λ s. not (s.n == n)) live)
 ended_at live o s n true only is was =
@@ -62,7 +64,8 @@ ended_at live o s n false only is was =
 pub counted_ended : (live : List LocalSlot) (os : List Opened) (s : LocalSlot) (n : ℕ) → filter (λ s. s.n == n) live ≡ s ∷ [] → Counted live os
     → Counted (filter (λ s. not (s.n == n)) live) (map (at_frame one_less s.depth s.frame) os)
 counted_ended live [] s n only counted = tt
-counted_ended live (o ∷ os) s n only counted = (ended_at live o s n (is_frame s.depth s.frame o.frame) only refl counted.0, counted_ended live os s n only counted.1)
+counted_ended live (o ∷ os) s n only counted =
+    (ended_at live o s n (is_frame s.depth s.frame o.frame) only refl counted.0, counted_ended live os s n only counted.1)
 
 -- ---- frames are closed
 
@@ -70,7 +73,8 @@ count-kept : {X : Type 0} (p q : X → Bool) (xs : List X) → ((x : X) → p x 
 count-kept p q [] kept = refl
 count-kept p q (x ∷ xs) kept = at p q x xs (p x) (q x) refl refl (kept x) (count-kept p q xs kept)
   where
-    at : {X : Type 0} (p q : X → Bool) (x : X) (xs : List X) (b c : Bool) → p x ≡ b → q x ≡ c → (p x ≡ true → q x ≡ true) → how_many p (filter q xs) ≡ how_many p xs
+    at : {X : Type 0} (p q : X → Bool) (x : X) (xs : List X) (b c : Bool) → p x ≡ b → q x ≡ c → (p x ≡ true → q x ≡ true)
+        → how_many p (filter q xs) ≡ how_many p xs
         → how_many p (if c then x ∷ filter q xs else filter q xs) ≡ (if b then how_many p xs + 1 else how_many p xs)
     at p q x xs true true is kept_it implies same = rw (is, same) refl
     at p q x xs false true is kept_it implies same = rw (is, same) refl
@@ -80,13 +84,16 @@ count-kept p q (x ∷ xs) kept = at p q x xs (p x) (q x) refl refl (kept x) (cou
 below_it : (s : LocalSlot) (f from : Frame) → is_under f from ≡ true → is_in s f ≡ true → is_below s from ≡ true
 below_it s f from under is = grind (arith, nat_tests, under, is)
 
-closed_at : (live : List LocalSlot) (from : Frame) (o : Opened) (os : List Opened) (b : Bool) → is_under o.frame from ≡ b → o.held ≡ how_many (λ s. is_in s o.frame) live
+closed_at : (live : List LocalSlot) (from : Frame) (o : Opened) (os : List Opened) (b : Bool) → is_under o.frame from ≡ b
+    → o.held ≡ how_many (λ s. is_in s o.frame) live
     → Counted (filter (λ s. is_below s from) live) (filter (λ o. is_under o.frame from) os)
     → Counted (filter (λ s. is_below s from) live) (if b then o ∷ filter (λ o. is_under o.frame from) os else filter (λ o. is_under o.frame from) os)
-closed_at live from o os true is was later = (was ∙ sym (count-kept (λ s. is_in s o.frame) (λ s. is_below s from) live (λ s h. below_it s o.frame from is h)), later)
+closed_at live from o os true is was later =
+    (was ∙ sym (count-kept (λ s. is_in s o.frame) (λ s. is_below s from) live (λ s h. below_it s o.frame from is h)), later)
 closed_at live from o os false is was later = later
 
-pub counted_closed : (live : List LocalSlot) (from : Frame) (os : List Opened) → Counted live os → Counted (filter (λ s. is_below s from) live) (filter (λ o. is_under o.frame from) os)
+pub counted_closed : (live : List LocalSlot) (from : Frame) (os : List Opened) → Counted live os
+    → Counted (filter (λ s. is_below s from) live) (filter (λ o. is_under o.frame from) os)
 counted_closed live from [] counted = tt
 counted_closed live from (o ∷ os) counted = closed_at live from o os (is_under o.frame from) refl counted.0 (counted_closed live from os counted.1)
 
@@ -100,7 +107,8 @@ stays_live from slots = filter-twice (stays (Some from)) (λ s. is_below s from)
 
 -- ---- a frame is opened
 
-pub counted_opened : (live : List LocalSlot) (os : List Opened) (f : Frame) → AllByRecursion (λ s. is_in s f ≡ false) live → Counted live os → Counted live (os ++ record { frame = f; held = 0 } ∷ [])
+pub counted_opened : (live : List LocalSlot) (os : List Opened) (f : Frame) → AllByRecursion (λ s. is_in s f ≡ false) live → Counted live os
+    → Counted live (os ++ record { frame = f; held = 0 } ∷ [])
 counted_opened live [] f new counted = (sym (count-none (λ s. is_in s f) live new), tt)
 counted_opened live (o ∷ os) f new counted = (counted.0, counted_opened live os f new counted.1)
 

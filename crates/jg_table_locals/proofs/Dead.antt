@@ -26,7 +26,8 @@ pub one_of : (s : LocalSlot) → ◌≡◌ {A = ℕ} (if is_some (if s.live then
 one_of s = elim (cases_Bool s.live) [ inl is ↦ rw is refl | inr out ↦ rw out refl ]
 
 -- one that is marked dead makes one more, if it was live
-pub dead-ended : (slots : List LocalSlot) (i : ℕ) (s : LocalSlot) → i < length slots → s ≡ get_or slots i s → dead_in (set slots i (ended s)) ≤ dead_in slots + (if s.live then 1 else 0)
+pub dead-ended : (slots : List LocalSlot) (i : ℕ) (s : LocalSlot) → i < length slots → s ≡ get_or slots i s
+    → dead_in (set slots i (ended s)) ≤ dead_in slots + (if s.live then 1 else 0)
 dead-ended [] i s within is = absurd (omega (arith, within))
 dead-ended (x ∷ slots) zero s within is =
     elim (cases_Bool s.live) [

@@ -35,11 +35,13 @@ abbrev pub name_in : ℕ → List (ℕ × StackRows) → Option (ℕ × ℕ)
 name_in o es = option_map (λ row. (row.tid, row.n)) (find (λ row. row.object == o) (rows_seen es).locals)
 
 -- it is one stack's, or else that of the others
-name_first : (o t : ℕ) (v : StackRows) (es : List (ℕ × StackRows)) → name_in o ((t, v) ∷ es) ≡ option_or (option_map {U = ℕ × ℕ} (λ n. (t, n)) (number_in o v)) (name_in o es)
+name_first : (o t : ℕ) (v : StackRows) (es : List (ℕ × StackRows))
+    → name_in o ((t, v) ∷ es) ≡ option_or (option_map {U = ℕ × ℕ} (λ n. (t, n)) (number_in o v)) (name_in o es)
 name_first o t v es =
     ap (option_map {U = ℕ × ℕ} (λ (row : LocalRow). (row.tid, row.n))) (find-append (λ (row : LocalRow). row.object == o) (locals_of t v) (gather locals_of es))
     ∙ either (find (λ row. row.object == o) (locals_of t v)) (find (λ row. row.object == o) (gather locals_of es))
-    ∙ ap (λ own. option_or own (name_in o es)) (sym (found_in {R = ℕ × ℕ} (local_row t) (λ row. row.object == o) (λ row. (row.tid, row.n)) v.locals) ∙ inside (find (λ s. s.object == o) v.locals))
+    ∙ ap (λ own. option_or own (name_in o es)) (sym (found_in {R = ℕ × ℕ} (local_row t) (λ row. row.object == o) (λ row. (row.tid, row.n)) v.locals)
+    ∙ inside (find (λ s. s.object == o) v.locals))
   where
     either : (own later : Option LocalRow)
         → option_map {U = ℕ × ℕ} (λ (row : LocalRow). (row.tid, row.n)) (option_or own later)
@@ -48,32 +50,40 @@ name_first o t v es =
     either None later = refl
     either (Some row) later = refl
 
-    inside : (found : Option LocalSlot) → option_map {U = ℕ × ℕ} (λ (s : LocalSlot). (t, s.n)) found ≡ option_map {U = ℕ × ℕ} (λ n. (t, n)) (option_map (λ (s : LocalSlot). s.n) found)
+    inside : (found : Option LocalSlot)
+        → option_map {U = ℕ × ℕ} (λ (s : LocalSlot). (t, s.n)) found ≡ option_map {U = ℕ × ℕ} (λ n. (t, n)) (option_map (λ (s : LocalSlot). s.n) found)
     inside None = refl
     inside (Some s) = refl
 
-module _ (o : ℕ) (seats : List (Numbered StackRows)) (i : ℕ) (d : Numbered StackRows) (within : i < length seats) (rest : name_in o (map seen (drop i seats)) ≡ name_in o (map seen seats)) where
-  from_here : option_or (option_map {U = ℕ × ℕ} (λ n. ((get_or seats i d).number, n)) (number_in o (get_or seats i d).value)) (name_in o (map seen (drop (i + 1) seats))) ≡ name_in o (map seen seats)
+module _ (o : ℕ) (seats : List (Numbered StackRows)) (i : ℕ) (d : Numbered StackRows) (within : i < length seats)
+    (rest : name_in o (map seen (drop i seats)) ≡ name_in o (map seen seats)) where
+  from_here : option_or (option_map {U = ℕ × ℕ} (λ n. ((get_or seats i d).number, n)) (number_in o (get_or seats i d).value))
+      (name_in o (map seen (drop (i + 1) seats))) ≡ name_in o (map seen seats)
   from_here =
       sym (name_first o (get_or seats i d).number (get_or seats i d).value (map seen (drop (i + 1) seats)))
       ∙ sym (at_drop_more (λ l. name_in o (map seen l)) seats i d within) ∙ rest
 
   -- a stack has none, so that it is that of the stacks behind
   pub name_past : None ≡ number_in o (get_or seats i d).value → name_in o (map seen (drop (i + 1) seats)) ≡ name_in o (map seen seats)
-  name_past none = ap (λ own. option_or (option_map {U = ℕ × ℕ} (λ n. ((get_or seats i d).number, n)) own) (name_in o (map seen (drop (i + 1) seats)))) none ∙ from_here
+  name_past none = ap (λ own. option_or (option_map {U = ℕ × ℕ} (λ n. ((get_or seats i d).number, n)) own) (name_in o (map seen (drop (i + 1) seats)))) none
+      ∙ from_here
 
   -- a stack has one
-  pub name_here : (n : ℕ) → Some n ≡ number_in o (get_or seats i d).value → ◌≡◌ {A = Option (ℕ × ℕ)} (Some ((get_or seats i d).number, n)) (name_in o (map seen seats))
-  name_here n found = ap (λ own. option_or (option_map {U = ℕ × ℕ} (λ k. ((get_or seats i d).number, k)) own) (name_in o (map seen (drop (i + 1) seats)))) found ∙ from_here
+  pub name_here : (n : ℕ) → Some n ≡ number_in o (get_or seats i d).value
+      → ◌≡◌ {A = Option (ℕ × ℕ)} (Some ((get_or seats i d).number, n)) (name_in o (map seen seats))
+  name_here n found = ap (λ own. option_or (option_map {U = ℕ × ℕ} (λ k. ((get_or seats i d).number, k)) own) (name_in o (map seen (drop (i + 1) seats)))) found
+      ∙ from_here
 
 -- ---- what it tells where the rows stand
 
 -- one is found where the object is held
 pub found_law : (es : List (ℕ × StackRows)) (e : List Event) (o : ℕ) → Stands (rows_seen es) e → is_some (name_in o es) ≡ holds_object e o
-found_law es e o stands = any_found {Y = ℕ × ℕ} (λ (row : LocalRow). (row.tid, row.n)) (λ row. row.object == o) (rows_seen es).locals ∙ holds_law (rows_seen es) e o stands
+found_law es e o stands = any_found {Y = ℕ × ℕ} (λ (row : LocalRow). (row.tid, row.n)) (λ row. row.object == o) (rows_seen es).locals
+    ∙ holds_law (rows_seen es) e o stands
 
 -- and it is live, and names the object
-pub named_law : (es : List (ℕ × StackRows)) (e : List Event) (o : ℕ) → Stands (rows_seen es) e → IfSome (name_in o es) (λ name. live name.1 (acts_of name.0 e) ≡ Some o)
+pub named_law : (es : List (ℕ × StackRows)) (e : List Event) (o : ℕ) → Stands (rows_seen es) e
+    → IfSome (name_in o es) (λ name. live name.1 (acts_of name.0 e) ≡ Some o)
 named_law es e o stands = by (find (λ row. row.object == o) (rows_seen es).locals) (is_found (λ row. row.object == o) (rows_seen es).locals)
   where
     row_live : (row : LocalRow) → Member row (rows_seen es).locals → (row.object == o) ≡ true → live row.n (acts_of row.tid e) ≡ Some o

@@ -12,7 +12,8 @@ use Rattle.jg_table_locals.proofs.Rooms.{greater_none, room_pushed, room_of_othe
 use Rattle.jg_table_locals.specs.Rows.{FrameRow}
 
 -- the rows of an activation, and those up to a depth, tell the frames, their rooms, and no more
-rows_at_same : (t d k : ℕ) (acts others : List Act) → ((j : ℕ) → j ≤ k → frame_room d j acts ≡ frame_room d j others) → rows_at t d k acts ≡ rows_at t d k others
+rows_at_same : (t d k : ℕ) (acts others : List Act) → ((j : ℕ) → j ≤ k → frame_room d j acts ≡ frame_room d j others)
+    → rows_at t d k acts ≡ rows_at t d k others
 rows_at_same t d zero acts others same = rw (same 0 (omega arith)) refl
 rows_at_same t d (suc k) acts others same = rw (rows_at_same t d k acts others (λ j h. same j (omega arith)), same (suc k) (omega arith)) refl
 
@@ -22,7 +23,8 @@ rows_up_to_same t zero acts others same rooms =
     ap (λ k. rows_at t 0 k acts) (same 0 (omega arith)) ∙ rows_at_same t 0 (frames 0 others) acts others (λ j h. rooms 0 j (omega arith) h)
 rows_up_to_same t (suc d) acts others same rooms =
     let below = rows_up_to_same t d acts others (λ k h. same k (omega arith)) (λ i j h in_it. rooms i j (omega arith) in_it) in
-    let here = ap (λ k. rows_at t (suc d) k acts) (same (suc d) (omega arith)) ∙ rows_at_same t (suc d) (frames (suc d) others) acts others (λ j h. rooms (suc d) j (omega arith) h) in
+    let here = ap (λ k. rows_at t (suc d) k acts) (same (suc d) (omega arith))
+    ∙ rows_at_same t (suc d) (frames (suc d) others) acts others (λ j h. rooms (suc d) j (omega arith) h) in
     cc
 
 frames_push : (d room : ℕ) (acts : List Act) → AllAllowed acts → d ≡ depth acts → frames d (Push room ∷ acts) ≡ suc (frames d acts)
@@ -58,9 +60,15 @@ kept_up_to : (p : FrameRow → Bool) (t d : ℕ) (acts : List Act)
     → filter p (rows_up_to t d acts) ≡ rows_up_to t d acts
 kept_up_to p t zero acts passes = kept_at p t 0 (frames 0 acts) acts (λ j room _. passes 0 j room (omega arith))
 kept_up_to p t (suc d) acts passes =
-    rw (filter-append, kept_up_to p t d acts (λ i j room h. passes i j room (omega arith)), kept_at p t (suc d) (frames (suc d) acts) acts (λ j room _. passes (suc d) j room (omega arith))) refl
+    rw (
+      filter-append,
+      kept_up_to p t d acts (λ i j room h. passes i j room (omega arith)),
+      kept_at p t (suc d) (frames (suc d) acts) acts
+          (λ j room _. passes (suc d) j room (omega arith)),
+    ) refl
 
-dropped_at : (p : FrameRow → Bool) (t d k : ℕ) (acts : List Act) → ((j room : ℕ) → p (record { tid = t; depth = d; frame = j; room = room }) ≡ false) → filter p (rows_at t d k acts) ≡ []
+dropped_at : (p : FrameRow → Bool) (t d k : ℕ) (acts : List Act) → ((j room : ℕ) → p (record { tid = t; depth = d; frame = j; room = room }) ≡ false)
+    → filter p (rows_at t d k acts) ≡ []
 dropped_at p t d zero acts fails = rw (fails 0 _) refl
 dropped_at p t d (suc k) acts fails = rw (filter-append, dropped_at p t d k acts fails, fails (suc k) _) refl
 
@@ -71,7 +79,8 @@ rows_at-push : (t d room : ℕ) (acts : List Act) → AllAllowed acts → d ≡ 
     → rows_at t d (frames d (Push room ∷ acts)) (Push room ∷ acts) ≡ rows_at t d (frames d acts) acts ++ row_pushed t d (frames d acts) room ∷ []
 rows_at-push t d room acts h is =
     let below = rows_at_same t d (frames d acts) (Push room ∷ acts) acts (λ j le. room_of_others_pushed d j room acts le) in
-    let here : row_of_frame t d (suc (frames d acts)) (Push room ∷ acts) ≡ row_pushed t d (frames d acts) room = ap (row_pushed t d (frames d acts)) (room_pushed d room acts is) in
+    let here : row_of_frame t d (suc (frames d acts)) (Push room ∷ acts) ≡ row_pushed t d (frames d acts) room =
+    ap (row_pushed t d (frames d acts)) (room_pushed d room acts is) in
     ap (λ k. rows_at t d k (Push room ∷ acts)) (frames_push d room acts h is)
     ∙ (ap (λ l. l ++ row_of_frame t d (suc (frames d acts)) (Push room ∷ acts) ∷ []) below ∙ ap (λ r. rows_at t d (frames d acts) acts ++ r ∷ []) here)
 
@@ -80,7 +89,8 @@ pub rows_up_to-push : (t d room : ℕ) (acts : List Act) → AllAllowed acts →
     → rows_up_to t d (Push room ∷ acts) ≡ rows_up_to t d acts ++ row_pushed t d (frames d acts) room ∷ []
 rows_up_to-push t zero room acts h is = rows_at-push t 0 room acts h is
 rows_up_to-push t (suc d) room acts h is =
-    let below = rows_up_to_same t d (Push room ∷ acts) acts (λ k le. frames_other_push k room acts (omega arith)) (λ i j le in_it. room_of_others_pushed i j room acts in_it) in
+    let below = rows_up_to_same t d (Push room ∷ acts) acts (λ k le. frames_other_push k room acts (omega arith))
+    (λ i j le in_it. room_of_others_pushed i j room acts in_it) in
     let here = rows_at-push t (suc d) room acts h is in
     rw (below, here) (rw append_assoc refl)
 
@@ -108,28 +118,36 @@ rows_at-pop t d acts some is =
     gone ∙ rows_at_same t d (frames d (Pop ∷ acts)) acts (Pop ∷ acts) (λ j h. sym (greater_none (frame_room d j acts)))
 
 -- the newest frame at the present depth is popped
-pub rows_up_to-pop : (t d : ℕ) (acts : List Act) → 0 < frames d acts → d ≡ depth acts → filter (is_not_frame t d (frames d acts)) (rows_up_to t d acts) ≡ rows_up_to t d (Pop ∷ acts)
+pub rows_up_to-pop : (t d : ℕ) (acts : List Act) → 0 < frames d acts → d ≡ depth acts
+    → filter (is_not_frame t d (frames d acts)) (rows_up_to t d acts) ≡ rows_up_to t d (Pop ∷ acts)
 rows_up_to-pop t zero acts some is = rows_at-pop t 0 acts some is
 rows_up_to-pop t (suc d) acts some is =
     let below = kept_up_to (is_not_frame t (suc d) (frames (suc d) acts)) t d acts (λ i j room h. grind (arith, nat_tests)) in
-    let same = rows_up_to_same t d acts (Pop ∷ acts) (λ k h. sym (frames_other_pop k acts (omega arith))) (λ i j h in_it. sym (greater_none (frame_room i j acts))) in
+    let same = rows_up_to_same t d acts (Pop ∷ acts) (λ k h. sym (frames_other_pop k acts (omega arith)))
+    (λ i j h in_it. sym (greater_none (frame_room i j acts))) in
     let here = rows_at-pop t (suc d) acts some is in
     rw (filter-append, below, same, here) refl
 
 -- the present activation is left
-pub rows_up_to-leave : (t d : ℕ) (acts : List Act) → suc d ≡ depth acts → filter (is_not_depth t (suc d)) (rows_up_to t (suc d) acts) ≡ rows_up_to t d (Leave ∷ acts)
+pub rows_up_to-leave : (t d : ℕ) (acts : List Act) → suc d ≡ depth acts
+    → filter (is_not_depth t (suc d)) (rows_up_to t (suc d) acts) ≡ rows_up_to t d (Leave ∷ acts)
 rows_up_to-leave t d acts is =
     let below = kept_up_to (is_not_depth t (suc d)) t d acts (λ i j room h. grind (arith, nat_tests)) in
     let same = rows_up_to_same t d acts (Leave ∷ acts) (λ k h. refl) (λ i j h in_it. sym (greater_none (frame_room i j acts))) in
     let here = dropped_at (is_not_depth t (suc d)) t (suc d) (frames (suc d) acts) acts (λ j room. grind (arith, nat_tests)) in
     rw (filter-append, below, same, here) (append-nil _)
 
-dropped_up_to : (p : FrameRow → Bool) (t d : ℕ) (acts : List Act) → ((i j room : ℕ) → p (record { tid = t; depth = i; frame = j; room = room }) ≡ false) → filter p (rows_up_to t d acts) ≡ []
+dropped_up_to : (p : FrameRow → Bool) (t d : ℕ) (acts : List Act) → ((i j room : ℕ) → p (record { tid = t; depth = i; frame = j; room = room }) ≡ false)
+    → filter p (rows_up_to t d acts) ≡ []
 dropped_up_to p t zero acts fails = dropped_at p t 0 (frames 0 acts) acts (fails 0)
-dropped_up_to p t (suc d) acts fails = rw (filter-append, dropped_up_to p t d acts fails, dropped_at p t (suc d) (frames (suc d) acts) acts (fails (suc d))) refl
+dropped_up_to p t (suc d) acts fails =
+    rw (filter-append, dropped_up_to p t d acts fails, dropped_at p t (suc d) (frames (suc d) acts) acts (fails (suc d))) refl
 
-pub dropped_open : (p : FrameRow → Bool) (t : ℕ) (acts : List Act) → ((i j room : ℕ) → p (record { tid = t; depth = i; frame = j; room = room }) ≡ false) → filter p (open_frames t acts) ≡ []
-dropped_open p t acts fails = elim (has_session acts) as (λ b. filter p (if b then rows_up_to t (depth acts) acts else []) ≡ []) [ true ↦ dropped_up_to p t (depth acts) acts fails | false ↦ refl ]
+pub dropped_open : (p : FrameRow → Bool) (t : ℕ) (acts : List Act) → ((i j room : ℕ) → p (record { tid = t; depth = i; frame = j; room = room }) ≡ false)
+    → filter p (open_frames t acts) ≡ []
+dropped_open p t acts fails =
+    elim (has_session acts) as (λ b. filter p (if b then rows_up_to t (depth acts) acts else []) ≡ [])
+    [ true ↦ dropped_up_to p t (depth acts) acts fails | false ↦ refl ]
 
 -- ---- the present frame has more room
 
@@ -165,8 +183,10 @@ raised_at t c i j acts true is =
     let mine : (t == t && (i == depth acts && j == frames (depth acts) acts)) ≡ true = grind (arith, nat_tests, is) in
     let deep : i ≡ depth acts = grind (arith, nat_tests, is) in
     let here : j ≡ frames (depth acts) acts = grind (arith, nat_tests, is) in
-    let place : row_of_frame t (depth acts) (frames (depth acts) acts) (Ensure c ∷ acts) ≡ record { tid = t; depth = depth acts; frame = frames (depth acts) acts; room = room_after c acts } =
-    ap (λ x. record { tid = t; depth = depth acts; frame = frames (depth acts) acts; room = x }) (room_ensured (depth acts) (frames (depth acts) acts) c acts refl refl) in
+    let place : row_of_frame t (depth acts) (frames (depth acts) acts) (Ensure c ∷ acts)
+    ≡ record { tid = t; depth = depth acts; frame = frames (depth acts) acts; room = room_after c acts } =
+    ap (λ x. record { tid = t; depth = depth acts; frame = frames (depth acts) acts; room = x })
+    (room_ensured (depth acts) (frames (depth acts) acts) c acts refl refl) in
     let same : row_of_frame t i j (Ensure c ∷ acts) ≡ row_of_frame t (depth acts) (frames (depth acts) acts) (Ensure c ∷ acts) =
     ap (λ x. row_of_frame t x j (Ensure c ∷ acts)) deep ∙ ap (λ x. row_of_frame t (depth acts) x (Ensure c ∷ acts)) here in
     rw mine (ap (λ x. record { tid = t; depth = x; frame = j; room = room_after c acts }) deep

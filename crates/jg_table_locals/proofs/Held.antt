@@ -22,7 +22,8 @@ any_of_live t o (Some l) is =
     let same : l.object ≡ o = cc in
     grind (arith, nat_tests)
 
-rows_hold : (rows : Rows) (e : List Event) (o : ℕ) → Stands rows e → IsTrue (list_any (λ row. row.object == o) rows.locals) ↔ ((t : ℕ) × (n : ℕ) × (live n (acts_of t e) ≡ Some o))
+rows_hold : (rows : Rows) (e : List Event) (o : ℕ) → Stands rows e
+    → IsTrue (list_any (λ row. row.object == o) rows.locals) ↔ ((t : ℕ) × (n : ℕ) × (live n (acts_of t e) ≡ Some o))
 rows_hold rows e o stands = (
   (λ is.
       let found = any_member (λ row. row.object == o) rows.locals is in
@@ -97,7 +98,8 @@ held_means e o = (
       live_made o found.0.tid e found.0.act found.1.1),
   (λ some.
       let made = live_was_made some.1 o (acts_of some.0 e) some.2 in
-      any_act (λ ev. makes_live o (acts_of ev.tid e) ev.act) some.0 (Make some.1 o) e made.0 made.1 made.2 (λ v mine act. makes_it o some.0 some.1 e v some.2 mine act)),
+      any_act (λ ev. makes_live o (acts_of ev.tid e) ev.act) some.0 (Make some.1 o) e made.0 made.1 made.2
+      (λ v mine act. makes_it o some.0 some.1 e v some.2 mine act)),
 )
 
 -- the rows tell which objects are held

@@ -54,7 +54,8 @@ left_member m n ns (inl same) apart = absurd (differ n m same apart)
     differ n m same apart = grind (arith, nat_tests, same, apart)
 left_member m n ns (inr later) apart = later
 
-each_left : (m : ℕ) (ns : List ℕ) (rows : List LocalRow) → AllByRecursion (λ row. Member row.n (m ∷ ns)) rows → AllByRecursion (λ row. Member row.n ns) (filter (λ row. not (row.n == m)) rows)
+each_left : (m : ℕ) (ns : List ℕ) (rows : List LocalRow) → AllByRecursion (λ row. Member row.n (m ∷ ns)) rows
+    → AllByRecursion (λ row. Member row.n ns) (filter (λ row. not (row.n == m)) rows)
 each_left m ns [] all = tt
 each_left m ns (row ∷ rows) all = at m ns row rows (not (row.n == m)) refl all.0 (each_left m ns rows all.1)
   where
@@ -68,7 +69,8 @@ no_rows : (rows : List LocalRow) → AllByRecursion (λ row. Member row.n []) ro
 no_rows [] all = refl
 no_rows (row ∷ rows) all = absurd all.0
 
-other_number : (m n : ℕ) (rows : List LocalRow) → (n == m) ≡ false → filter (λ row. row.n == n) (filter (λ row. not (row.n == m)) rows) ≡ filter (λ row. row.n == n) rows
+other_number : (m n : ℕ) (rows : List LocalRow) → (n == m) ≡ false
+    → filter (λ row. row.n == n) (filter (λ row. not (row.n == m)) rows) ≡ filter (λ row. row.n == n) rows
 other_number m n [] apart = refl
 other_number m n (row ∷ rows) apart = grind (arith, nat_tests, other_number m n rows apart, apart)
 
@@ -91,7 +93,8 @@ distinct-filter : (p : ℕ → Bool) (ns : List ℕ) → Distinct ns → Distinc
 distinct-filter p [] apart = tt
 distinct-filter p (n ∷ ns) apart = at p n ns (p n) apart.0 (distinct-filter p ns apart.1)
   where
-    at : (p : ℕ → Bool) (n : ℕ) (ns : List ℕ) (b : Bool) → AllByRecursion (λ m. (m == n) ≡ false) ns → Distinct (filter p ns) → Distinct (if b then n ∷ filter p ns else filter p ns)
+    at : (p : ℕ → Bool) (n : ℕ) (ns : List ℕ) (b : Bool) → AllByRecursion (λ m. (m == n) ≡ false) ns → Distinct (filter p ns)
+        → Distinct (if b then n ∷ filter p ns else filter p ns)
     at p n ns true all later = (each-filter (λ m. (m == n) ≡ false) p ns all, later)
     at p n ns false all later = later
 
@@ -124,7 +127,8 @@ some_before a None is = is
 some_before a (Some m) is = refl
 
 made_number : (n j o : ℕ) (acts : List Act) (same : Bool) → eqb j n ≡ same → (IsSome (making n acts) → Member n (numbers acts))
-    → IsSome (if same then Some (record { later = []; object = o; before = acts }) else seen_after (Make j o) (making n acts)) → Member n (j ∷ filter (λ m. not (m == j)) (numbers acts))
+    → IsSome (if same then Some (record { later = []; object = o; before = acts }) else seen_after (Make j o) (making n acts))
+    → Member n (j ∷ filter (λ m. not (m == j)) (numbers acts))
 made_number n j o acts true is earlier some = inl (sym (eqb-true j n is))
 made_number n j o acts false is earlier some =
     let apart : not (n == j) ≡ true = grind (arith, nat_tests, is) in
@@ -147,7 +151,8 @@ found_made : (t n : ℕ) (row : LocalRow) (found : Option Making) → Member row
 found_made t n row None m = absurd m
 found_made t n row (Some made) m = refl
 
-own_row : (rows : Rows) (e : List Event) (t : ℕ) → Stands rows e → (row : LocalRow) → Member row (filter (λ row. row.tid == t) rows.locals) → Member row.n (numbers (acts_of t e))
+own_row : (rows : Rows) (e : List Event) (t : ℕ) → Stands rows e → (row : LocalRow) → Member row (filter (λ row. row.tid == t) rows.locals)
+    → Member row.n (numbers (acts_of t e))
 own_row rows e t stands row m =
     let kept = member_filtered (λ (row : LocalRow). row.tid == t) row rows.locals m in
     let mine : (row.tid == t) ≡ true = kept.1 in
@@ -181,10 +186,14 @@ pub held_told : (rows : Rows) (e : List Event) (f : FrameRow) → Stands rows e 
 held_told rows e f stands =
     let own = filter (λ (row : LocalRow). row.tid == f.tid) rows.locals in
     let ns = numbers (acts_of f.tid e) in
-    let each = counted (is_within f.depth f.frame) ns own (numbers_apart (acts_of f.tid e)) (each_member (λ row. Member row.n ns) own (own_row rows e f.tid stands)) in
-    let same = total_alike (λ n. how_many (is_within f.depth f.frame) (filter (λ row. row.n == n) own)) (λ n. once_if (is_made_in f.depth f.frame (live_local n (acts_of f.tid e)))) ns
-    (each_member _ ns (λ n m. ap (how_many (is_within f.depth f.frame)) (own_number f.tid n rows.locals ∙ stands.locals f.tid n) ∙ one_local f.tid f.depth f.frame (live_local n (acts_of f.tid e)))) in
-    count-filter (is_within f.depth f.frame) (λ row. row.tid == f.tid) rows.locals ∙ (each ∙ (same ∙ total_ones (λ n. is_made_in f.depth f.frame (live_local n (acts_of f.tid e))) ns))
+    let each = counted (is_within f.depth f.frame) ns own (numbers_apart (acts_of f.tid e))
+    (each_member (λ row. Member row.n ns) own (own_row rows e f.tid stands)) in
+    let same = total_alike (λ n. how_many (is_within f.depth f.frame) (filter (λ row. row.n == n) own))
+    (λ n. once_if (is_made_in f.depth f.frame (live_local n (acts_of f.tid e)))) ns
+    (each_member _ ns (λ n m. ap (how_many (is_within f.depth f.frame)) (own_number f.tid n rows.locals ∙ stands.locals f.tid n)
+    ∙ one_local f.tid f.depth f.frame (live_local n (acts_of f.tid e)))) in
+    count-filter (is_within f.depth f.frame) (λ row. row.tid == f.tid) rows.locals
+    ∙ (each ∙ (same ∙ total_ones (λ n. is_made_in f.depth f.frame (live_local n (acts_of f.tid e))) ns))
 
 none_held : (d k : ℕ) (acts : List Act) (ns : List ℕ) → AllAllowed acts → has_session acts ≡ false → how_many (λ n. is_made_in d k (live_local n acts)) ns ≡ 0
 none_held d k acts [] h none = refl

@@ -24,7 +24,8 @@ filter_end (x ∷ xs) t live = ended x xs t x.live (filter_end xs t live)
     ended x xs t true same = ap (λ l. x ∷ l) same
     ended x xs t false same = same
 
-numbers_by : (slots : List LocalSlot) (n : ℕ) (end : Option LocalSlot) → Chain is_before slots → last slots ≡ end → passes is_live end ≡ true → AllByRecursion (λ s. s.n < n) (filter is_live slots)
+numbers_by : (slots : List LocalSlot) (n : ℕ) (end : Option LocalSlot) → Chain is_before slots → last slots ≡ end → passes is_live end ≡ true
+    → AllByRecursion (λ s. s.n < n) (filter is_live slots)
     → AllByRecursion (λ s. s.n < n) slots
 numbers_by slots n None chain is live all = rw (last-nil slots is) tt
 numbers_by slots n (Some t) chain is live all =
@@ -35,15 +36,18 @@ numbers_by slots n (Some t) chain is live all =
     chain-last is_before (λ s. s.n < n) slots t chain is here (λ s h. number_before s t n h here)
 
 -- a number above all live ones is above all
-numbers_below : (slots : List LocalSlot) (n : ℕ) → Chain is_before slots → passes is_live (last slots) ≡ true → All (λ s. s.n < n) (filter is_live slots) → AllByRecursion (λ s. s.n < n) slots
+numbers_below : (slots : List LocalSlot) (n : ℕ) → Chain is_before slots → passes is_live (last slots) ≡ true → All (λ s. s.n < n) (filter is_live slots)
+    → AllByRecursion (λ s. s.n < n) slots
 numbers_below slots n chain live all = numbers_by slots n (last slots) chain refl live (recursion_from_All _ _ all)
 
-given_at : (Q : Type 0) (p : Frame → Bool) (f : Frame) (fs : List Frame) (b : Bool) → p f ≡ b → (p f ≡ true → Q) → (list_any p fs ≡ true → Q) → (b || list_any p fs) ≡ true → Q
+given_at : (Q : Type 0) (p : Frame → Bool) (f : Frame) (fs : List Frame) (b : Bool) → p f ≡ b → (p f ≡ true → Q) → (list_any p fs ≡ true → Q)
+    → (b || list_any p fs) ≡ true → Q
 given_at Q p f fs true here now later any = now here
 given_at Q p f fs false here now later any = later any
 
 -- what holds where one of the frames is the slot's
-pub any_gives : (Q : Type 0) (P : Frame → Type 0) (p : Frame → Bool) (frames : List Frame) → ((f : Frame) → P f → p f ≡ true → Q) → AllByRecursion P frames → list_any p frames ≡ true → Q
+pub any_gives : (Q : Type 0) (P : Frame → Type 0) (p : Frame → Bool) (frames : List Frame) → ((f : Frame) → P f → p f ≡ true → Q) → AllByRecursion P frames
+    → list_any p frames ≡ true → Q
 any_gives Q P p [] give all is = cc
 any_gives Q P p (f ∷ fs) give all is = given_at Q p f fs (p f) refl (give f all.0) (any_gives Q P p fs give all.1) is
 
@@ -53,18 +57,22 @@ at_top f top = grind (arith, nat_tests)
 under_top : (f top : Frame) → is_under f top ≡ true → (is_under f top || is_same_frame f top) ≡ true
 under_top f top is = grind (arith, nat_tests, is)
 
-frames_up_to : (frames : List Frame) (top : Frame) → Chain is_under frames → last frames ≡ Some top → AllByRecursion (λ f. (is_under f top || is_same_frame f top) ≡ true) frames
-frames_up_to frames top chain is = chain-last is_under (λ f. (is_under f top || is_same_frame f top) ≡ true) frames top chain is (at_top top top) (λ f h. under_top f top h)
+frames_up_to : (frames : List Frame) (top : Frame) → Chain is_under frames → last frames ≡ Some top
+    → AllByRecursion (λ f. (is_under f top || is_same_frame f top) ≡ true) frames
+frames_up_to frames top chain is =
+    chain-last is_under (λ f. (is_under f top || is_same_frame f top) ≡ true) frames top chain is (at_top top top) (λ f h. under_top f top h)
 
 in_frame : (s : LocalSlot) (f top : Frame) → (is_under f top || is_same_frame f top) ≡ true → is_in s f ≡ true → is_up_to s top ≡ true
 in_frame s f top a b = grind (arith, nat_tests, a, b)
 
 -- no slot is above the newest frame
-slots_up_to : (slots : List LocalSlot) (frames : List Frame) (top : Frame) → Sound slots frames → Chain is_under frames → last frames ≡ Some top → AllByRecursion (λ s. is_up_to s top ≡ true) slots
+slots_up_to : (slots : List LocalSlot) (frames : List Frame) (top : Frame) → Sound slots frames → Chain is_under frames → last frames ≡ Some top
+    → AllByRecursion (λ s. is_up_to s top ≡ true) slots
 slots_up_to slots frames top sound chain is =
     let all = frames_up_to frames top chain is in
     each-map (λ s. list_any (is_in s) frames ≡ true) (λ s. is_up_to s top ≡ true)
-    (λ s any. any_gives (is_up_to s top ≡ true) (λ f. (is_under f top || is_same_frame f top) ≡ true) (is_in s) frames (λ f h at. in_frame s f top h at) all any) slots sound.inside
+    (λ s any. any_gives (is_up_to s top ≡ true) (λ f. (is_under f top || is_same_frame f top) ≡ true) (is_in s) frames (λ f h at. in_frame s f top h at) all
+    any) slots sound.inside
 
 made_after : (s : LocalSlot) (n o : ℕ) (top : Frame) → s.n < n → is_up_to s top ≡ true → is_before s (slot_made n o top) ≡ true
 made_after s n o top lt up = grind (arith, nat_tests, lt, up)
@@ -73,19 +81,22 @@ made_in : (n o : ℕ) (top : Frame) (frames : List Frame) → last frames ≡ So
 made_in n o top frames is =
     let split = last-split frames top is in
     let here : is_in (slot_made n o top) top ≡ true = grind (arith, nat_tests) in
-    let any : list_any (is_in (slot_made n o top)) (split.0 ++ top ∷ []) ≡ true = rw (list_any-append, here) (or_true (list_any (is_in (slot_made n o top)) split.0)) in
+    let any : list_any (is_in (slot_made n o top)) (split.0 ++ top ∷ []) ≡ true =
+    rw (list_any-append, here) (or_true (list_any (is_in (slot_made n o top)) split.0)) in
     ap (list_any (is_in (slot_made n o top))) split.1 ∙ any
   where
     or_true : (b : Bool) → (b || true) ≡ true
     or_true true = refl
     or_true false = refl
 
-pub make_kept : (slots : List LocalSlot) (frames : List Frame) (top : Frame) (n o : ℕ) → Kept slots frames → last frames ≡ Some top → All (λ s. s.n < n) (filter is_live slots)
+pub make_kept : (slots : List LocalSlot) (frames : List Frame) (top : Frame) (n o : ℕ) → Kept slots frames → last frames ≡ Some top
+    → All (λ s. s.n < n) (filter is_live slots)
     → Kept (slots ++ slot_made n o top ∷ []) frames
 make_kept slots frames top n o kept is above =
     let numbers = numbers_below slots n kept.sound.rises kept.ends above in
     let up = slots_up_to slots frames top kept.sound kept.opened is in
-    let all = each-both (λ s. s.n < n) (λ s. is_up_to s top ≡ true) (λ s. is_before s (slot_made n o top) ≡ true) (λ s a b. made_after s n o top a b) slots numbers up in
+    let all = each-both (λ s. s.n < n) (λ s. is_up_to s top ≡ true) (λ s. is_before s (slot_made n o top) ≡ true) (λ s a b. made_after s n o top a b) slots
+    numbers up in
     record {
       sound = record {
         rises = chain-push is_before slots (slot_made n o top) kept.sound.rises all;
@@ -95,7 +106,8 @@ make_kept slots frames top n o kept is above =
       ends = ap (passes is_live) (last-push slots (slot_made n o top));
     }
 
-next_by : (frames : List Frame) (f : Frame) (end : Option Frame) → Chain is_under frames → last frames ≡ end → IsNext end f → AllByRecursion (λ g. is_under g f ≡ true) frames
+next_by : (frames : List Frame) (f : Frame) (end : Option Frame) → Chain is_under frames → last frames ≡ end → IsNext end f
+    → AllByRecursion (λ g. is_under g f ≡ true) frames
 next_by frames f None chain is next = rw (last-nil frames is) tt
 next_by frames f (Some h) chain is next = chain-last is_under (λ g. is_under g f ≡ true) frames h chain is next (λ g a. earlier g h f a next)
   where
@@ -110,7 +122,8 @@ pub open_kept : (slots : List LocalSlot) (frames : List Frame) (f : Frame) → K
 open_kept slots frames f kept next = record {
   sound = record {
     rises = kept.sound.rises;
-    inside = each-map (λ s. list_any (is_in s) frames ≡ true) (λ s. list_any (is_in s) (frames ++ f ∷ []) ≡ true) (λ s any. list_any-front (is_in s) frames (f ∷ []) any) slots kept.sound.inside;
+    inside = each-map (λ s. list_any (is_in s) frames ≡ true) (λ s. list_any (is_in s) (frames ++ f ∷ []) ≡ true)
+        (λ s any. list_any-front (is_in s) frames (f ∷ []) any) slots kept.sound.inside;
   };
   opened = chain-push is_under frames f kept.opened (next_by frames f (last frames) kept.opened refl next);
   ends = kept.ends;
@@ -119,12 +132,14 @@ open_kept slots frames f kept next = record {
 below_under : (s : LocalSlot) (f from : Frame) → is_below s from ≡ true → is_in s f ≡ true → is_under f from ≡ true
 below_under s f from below is = grind (arith, nat_tests, below, is)
 
-pub cut_kept : (slots : List LocalSlot) (frames : List Frame) (from : Frame) → Sound slots frames → Chain is_under frames → AllByRecursion (λ s. is_below s from ≡ true) slots
+pub cut_kept : (slots : List LocalSlot) (frames : List Frame) (from : Frame) → Sound slots frames → Chain is_under frames
+    → AllByRecursion (λ s. is_below s from ≡ true) slots
     → passes is_live (last slots) ≡ true → Kept slots (filter (λ f. is_under f from) frames)
 cut_kept slots frames from sound chain below ends = record {
   sound = record {
     rises = sound.rises;
-    inside = each-both (λ s. list_any (is_in s) frames ≡ true) (λ s. is_below s from ≡ true) (λ s. list_any (is_in s) (filter (λ f. is_under f from) frames) ≡ true)
+    inside = each-both (λ s. list_any (is_in s) frames ≡ true) (λ s. is_below s from ≡ true)
+        (λ s. list_any (is_in s) (filter (λ f. is_under f from) frames) ≡ true)
         (λ s any low. any-filter_same (is_in s) (λ f. is_under f from) true (λ f is. below_under s f from low is) frames ∙ any) slots sound.inside below;
   };
   opened = chain-filter is_under (λ f. is_under f from) frames chain;
@@ -153,7 +168,8 @@ popped_slot s top up = grind (arith, nat_tests, up)
 pub popped_slots : (slots : List LocalSlot) (frames : List Frame) (top : Frame) → Sound slots frames → Chain is_under frames → last frames ≡ Some top
     → filter (stays (Some top)) slots ≡ filter (λ s. not (s.depth == top.depth && s.frame == top.frame)) (filter is_live slots)
 popped_slots slots frames top sound chain is = filter-twice (stays (Some top)) (λ s. not (s.depth == top.depth && s.frame == top.frame)) is_live slots
-    (each-map (λ s. is_up_to s top ≡ true) (λ s. stays (Some top) s ≡ (is_live s && not (s.depth == top.depth && s.frame == top.frame))) (λ s up. popped_slot s top up) slots
+    (each-map (λ s. is_up_to s top ≡ true) (λ s. stays (Some top) s ≡ (is_live s && not (s.depth == top.depth && s.frame == top.frame)))
+    (λ s up. popped_slot s top up) slots
     (slots_up_to slots frames top sound chain is))
 
 popped_frame : (f top : Frame) → (is_under f top || is_same_frame f top) ≡ true → is_under f top ≡ not (f.depth == top.depth && f.frame == top.frame)
@@ -162,7 +178,8 @@ popped_frame f top up = grind (arith, nat_tests, up)
 pub popped_frames : (frames : List Frame) (top : Frame) → Chain is_under frames → last frames ≡ Some top
     → filter (λ f. is_under f top) frames ≡ filter (λ f. not (f.depth == top.depth && f.frame == top.frame)) frames
 popped_frames frames top chain is = filter-alike (λ f. is_under f top) (λ f. not (f.depth == top.depth && f.frame == top.frame)) frames
-    (each-map (λ f. (is_under f top || is_same_frame f top) ≡ true) (λ f. is_under f top ≡ not (f.depth == top.depth && f.frame == top.frame)) (λ f up. popped_frame f top up) frames
+    (each-map (λ f. (is_under f top || is_same_frame f top) ≡ true) (λ f. is_under f top ≡ not (f.depth == top.depth && f.frame == top.frame))
+    (λ f up. popped_frame f top up) frames
     (frames_up_to frames top chain is))
 
 abbrev pub base : Frame → Frame
@@ -183,7 +200,8 @@ left_frame f top up = grind (arith, nat_tests, up)
 pub left_frames : (frames : List Frame) (top : Frame) → Chain is_under frames → last frames ≡ Some top
     → filter (λ f. is_under f (base top)) frames ≡ filter (λ f. not (f.depth == top.depth)) frames
 left_frames frames top chain is = filter-alike (λ f. is_under f (base top)) (λ f. not (f.depth == top.depth)) frames
-    (each-map (λ f. (is_under f top || is_same_frame f top) ≡ true) (λ f. is_under f (base top) ≡ not (f.depth == top.depth)) (λ f up. left_frame f top up) frames (frames_up_to frames top chain is))
+    (each-map (λ f. (is_under f top || is_same_frame f top) ≡ true) (λ f. is_under f (base top) ≡ not (f.depth == top.depth)) (λ f up. left_frame f top up)
+    frames (frames_up_to frames top chain is))
 
 -- ---- what is above all
 
@@ -193,11 +211,13 @@ above_none slots n none =
     let P : List LocalSlot → Type 0 = λ l. All (λ s. s.n < n) l in
     subst P (sym empty) (All-from_recursion (λ s. s.n < n) [] tt)
 
-pub above_newest : (slots : List LocalSlot) (t : LocalSlot) (n : ℕ) → Chain is_before slots → last slots ≡ Some t → t.n < n → All (λ s. s.n < n) (filter is_live slots)
+pub above_newest : (slots : List LocalSlot) (t : LocalSlot) (n : ℕ) → Chain is_before slots → last slots ≡ Some t → t.n < n
+    → All (λ s. s.n < n) (filter is_live slots)
 above_newest slots t n chain is lt = All-from_recursion (λ s. s.n < n) (filter is_live slots)
     (each-filter (λ s. s.n < n) is_live slots (chain-last is_before (λ s. s.n < n) slots t chain is lt (λ s h. number_before s t n h lt)))
 
-pub newest_below : (slots : List LocalSlot) (t : LocalSlot) (n : ℕ) → Chain is_before slots → passes is_live (last slots) ≡ true → last slots ≡ Some t → All (λ s. s.n < n) (filter is_live slots)
+pub newest_below : (slots : List LocalSlot) (t : LocalSlot) (n : ℕ) → Chain is_before slots → passes is_live (last slots) ≡ true → last slots ≡ Some t
+    → All (λ s. s.n < n) (filter is_live slots)
     → t.n < n
 newest_below slots t n chain live is all =
     let split = last-split slots t is in
@@ -221,8 +241,10 @@ up_sound new old frames is sound = let P : List LocalSlot → Type 0 = λ l. Sou
   inside = each-filter (λ s. list_any (is_in s) frames ≡ true) is_live old sound.inside;
 })
 
-pub up_below : (new old : List LocalSlot) (frame : Frame) → new ≡ filter is_live old → AllByRecursion (λ s. is_below s frame ≡ true) old → AllByRecursion (λ s. is_below s frame ≡ true) new
-up_below new old frame is all = let P : List LocalSlot → Type 0 = λ l. AllByRecursion (λ s. is_below s frame ≡ true) l in subst P (sym is) (each-filter (λ s. is_below s frame ≡ true) is_live old all)
+pub up_below : (new old : List LocalSlot) (frame : Frame) → new ≡ filter is_live old → AllByRecursion (λ s. is_below s frame ≡ true) old
+    → AllByRecursion (λ s. is_below s frame ≡ true) new
+up_below new old frame is all = let P : List LocalSlot → Type 0 = λ l. AllByRecursion (λ s. is_below s frame ≡ true) l
+    in subst P (sym is) (each-filter (λ s. is_below s frame ≡ true) is_live old all)
 
 pub up_ends : (new old : List LocalSlot) → new ≡ filter is_live old → passes is_live (last new) ≡ true
 up_ends new old is = ap (λ l. passes is_live (last l)) is ∙ (close_kept_ends old)

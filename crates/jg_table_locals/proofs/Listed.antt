@@ -11,7 +11,8 @@ use Rattle.jg_table_locals.specs.Seen.{StackRows, gather, locals_of, local_row, 
 use Rattle.jg_table_locals.proofs.Gathered.{gather-append}
 
 -- the references of some stacks, and then those of one more
-one_more : (es : List (ℕ × StackRows)) (t : ℕ) (v : StackRows) → map local_ref (rows_seen (es ++ (t, v) ∷ [])).locals ≡ map local_ref (rows_seen es).locals ++ map (slot_ref t) v.locals
+one_more : (es : List (ℕ × StackRows)) (t : ℕ) (v : StackRows)
+    → map local_ref (rows_seen (es ++ (t, v) ∷ [])).locals ≡ map local_ref (rows_seen es).locals ++ map (slot_ref t) v.locals
 one_more es t v =
     ap (map local_ref) (gather-append locals_of es ((t, v) ∷ []) ∙ ap (λ l. gather locals_of es ++ l) (append-nil (locals_of t v)))
     ∙ map-append local_ref (gather locals_of es) (locals_of t v)

@@ -34,7 +34,8 @@ not_ended_survives n [] each = refl
 not_ended_survives n (a ∷ later) each =
     survives_now n a later (not_ended_survives n later (λ newer since b is. each (a ∷ newer) since b (ap (λ acts. a ∷ acts) is))) (each [] later a refl)
 
-alive_cases : (n o : ℕ) (m : Making) (alive : Bool) → survives n m.later ≡ alive → object_of (local_if_live n (Some m)) ≡ Some o → (survives n m.later ≡ true) × (m.object ≡ o)
+alive_cases : (n o : ℕ) (m : Making) (alive : Bool) → survives n m.later ≡ alive → object_of (local_if_live n (Some m)) ≡ Some o
+    → (survives n m.later ≡ true) × (m.object ≡ o)
 alive_cases n o m true is_alive is = (is_alive, grind (arith, nat_tests))
 alive_cases n o m false is_dead is =
     let gone : local_if_live n (Some m) ≡ None = rw is_dead refl in
@@ -42,7 +43,8 @@ alive_cases n o m false is_dead is =
     cc
 
 -- what came later than the making that is found makes the number not again
-others_after : (n : ℕ) (a : Act) (found : Option Making) (m : Making) → ((later : List Act) → IsNotMade n later → IsNotMade n (a ∷ later)) → ((k : Making) → found ≡ Some k → IsNotMade n k.later)
+others_after : (n : ℕ) (a : Act) (found : Option Making) (m : Making) → ((later : List Act) → IsNotMade n later → IsNotMade n (a ∷ later))
+    → ((k : Making) → found ≡ Some k → IsNotMade n k.later)
     → seen_after a found ≡ Some m → IsNotMade n m.later
 others_after n a None m keeps earlier is = cc
 others_after n a (Some k) m keeps earlier is =
@@ -104,7 +106,8 @@ not_made_before n (Delete k) later once = once
 not_made_before n Pop later once = once
 not_made_before n Leave later once = once
 
-making_is : (n o : ℕ) (before later : List Act) → IsNotMade n later → making n (later ++ Make n o ∷ before) ≡ Some (record { later = later; object = o; before = before })
+making_is : (n o : ℕ) (before later : List Act) → IsNotMade n later
+    → making n (later ++ Make n o ∷ before) ≡ Some (record { later = later; object = o; before = before })
 making_is n o before [] once = grind (arith, nat_tests)
 making_is n o before (a ∷ later) once =
     rw (making_behind n a later (Make n o ∷ before) once, making_is n o before later (not_made_before n a later once)) refl
@@ -148,7 +151,8 @@ fewer_frames n o since before h s (inr is) =
     grind (arith, nat_tests, frames_since n o before since h.0 s, depth_since n o before since h.0 s, survived_frame n since s, h.1, is)
 
 more_popped : (n o : ℕ) (since before : List Act) → AllAllowed (Pop ∷ (since ++ Make n o ∷ before)) → survives n since ≡ true
-    → frames (depth before) (Pop ∷ (since ++ Make n o ∷ before)) < frames (depth before) before → done_here is_push (Pop ∷ since) < done_here is_pop (Pop ∷ since)
+    → frames (depth before) (Pop ∷ (since ++ Make n o ∷ before)) < frames (depth before) before
+    → done_here is_push (Pop ∷ since) < done_here is_pop (Pop ∷ since)
 more_popped n o since before h s is =
     grind (arith, nat_tests, frames_since n o before since h.0 s, depth_since n o before since h.0 s, survived_frame n since s, h.1, is)
 

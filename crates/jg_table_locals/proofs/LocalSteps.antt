@@ -21,7 +21,8 @@ row_made t n o before = record { tid = t; n = n; object = o; depth = depth befor
 
 -- one moment more is survived where the act keeps the row
 survives_more : (t n o : ℕ) (before later : List Act) (a : Act) → AllAllowed (a ∷ (later ++ Make n o ∷ before)) → survives n later ≡ true
-    → survives n (a ∷ later) ≡ keeps a (depth (later ++ Make n o ∷ before)) (frames (depth (later ++ Make n o ∷ before)) (later ++ Make n o ∷ before)) (row_made t n o before)
+    → survives n (a ∷ later) ≡ keeps a (depth (later ++ Make n o ∷ before)) (frames (depth (later ++ Make n o ∷ before)) (later ++ Make n o ∷ before))
+    (row_made t n o before)
 survives_more t n o before later Start h s = grind (arith, nat_tests)
 survives_more t n o before later End h s = grind (arith, nat_tests)
 survives_more t n o before later (Make m p) h s = grind (arith, nat_tests, survived_here n later s, survived_frame n later s)
@@ -29,7 +30,8 @@ survives_more t n o before later (Push room) h s = grind (arith, nat_tests, surv
 survives_more t n o before later (Ensure c) h s = grind (arith, nat_tests, survived_here n later s, survived_frame n later s)
 survives_more t n o before later Enter h s = grind (arith, nat_tests, survived_here n later s, survived_frame n later s)
 survives_more t n o before later (Delete m) h s = grind (arith, nat_tests, survived_here n later s, survived_frame n later s)
-survives_more t n o before later Pop h s = grind (arith, nat_tests, survived_here n later s, survived_frame n later s, depth_since n o before later h.0 s, frames_since n o before later h.0 s)
+survives_more t n o before later Pop h s =
+    grind (arith, nat_tests, survived_here n later s, survived_frame n later s, depth_since n o before later h.0 s, frames_since n o before later h.0 s)
 survives_more t n o before later Leave h s = grind (arith, nat_tests, survived_here n later s, survived_frame n later s, depth_since n o before later h.0 s)
 
 -- the acts that a making is one of
@@ -37,7 +39,8 @@ abbrev pub whole : ℕ → Making → List Act
 whole n m = m.later ++ Make n m.object ∷ m.before
 
 -- the making that is found is one of the acts
-splits_after : (n : ℕ) (a : Act) (acts : List Act) (found : Option Making) (m : Making) → ((k : Making) → found ≡ Some k → acts ≡ whole n k) → seen_after a found ≡ Some m → a ∷ acts ≡ whole n m
+splits_after : (n : ℕ) (a : Act) (acts : List Act) (found : Option Making) (m : Making) → ((k : Making) → found ≡ Some k → acts ≡ whole n k)
+    → seen_after a found ≡ Some m → a ∷ acts ≡ whole n m
 splits_after n a acts None m earlier is = cc
 splits_after n a acts (Some k) m earlier is =
     let same : record k { later = a ∷ k.later } ≡ m = cc in
@@ -75,7 +78,8 @@ row_step t n a m true is h =
 row_step t n a m false is h = rw is refl
 
 pub rows_step : (t n : ℕ) (a : Act) (acts : List Act) (found : Option Making) → making n acts ≡ found → AllAllowed (a ∷ acts)
-    → rows_of_local t (local_if_live n (seen_after a found)) ≡ filter (keeps a (depth acts) (frames (depth acts) acts)) (rows_of_local t (local_if_live n found))
+    → rows_of_local t (local_if_live n (seen_after a found))
+    ≡ filter (keeps a (depth acts) (frames (depth acts) acts)) (rows_of_local t (local_if_live n found))
 rows_step t n a acts None is h = refl
 rows_step t n a acts (Some m) is h =
     let split = making_splits n acts m is in
@@ -84,7 +88,8 @@ rows_step t n a acts (Some m) is h =
     subst P (sym split) (λ k. row_step t n a m (survives n m.later) refl k) h
 
 -- a local that survived was made in the session that still stands
-session_since : (n o : ℕ) (before later : List Act) → AllAllowed (later ++ Make n o ∷ before) → survives n later ≡ true → has_session (later ++ Make n o ∷ before) ≡ true
+session_since : (n o : ℕ) (before later : List Act) → AllAllowed (later ++ Make n o ∷ before) → survives n later ≡ true
+    → has_session (later ++ Make n o ∷ before) ≡ true
 session_since n o before [] h s = h.1
 session_since n o before (Start ∷ later) h s = refl
 session_since n o before (End ∷ later) h s = grind (arith, nat_tests)
@@ -96,11 +101,13 @@ session_since n o before (Delete m ∷ later) h s = session_since n o before lat
 session_since n o before (Pop ∷ later) h s = session_since n o before later h.0 (survived_before n Pop later s)
 session_since n o before (Leave ∷ later) h s = session_since n o before later h.0 (survived_before n Leave later s)
 
-none_alive : (n : ℕ) (m : Making) (alive : Bool) → survives n m.later ≡ alive → AllAllowed (whole n m) → has_session (whole n m) ≡ false → local_if_live n (Some m) ≡ None
+none_alive : (n : ℕ) (m : Making) (alive : Bool) → survives n m.later ≡ alive → AllAllowed (whole n m) → has_session (whole n m) ≡ false
+    → local_if_live n (Some m) ≡ None
 none_alive n m true is h none = let since = session_since n m.object m.before m.later h is in cc
 none_alive n m false is h none = rw is refl
 
-none_found : (n : ℕ) (acts : List Act) (found : Option Making) → making n acts ≡ found → AllAllowed acts → has_session acts ≡ false → local_if_live n found ≡ None
+none_found : (n : ℕ) (acts : List Act) (found : Option Making) → making n acts ≡ found → AllAllowed acts → has_session acts ≡ false
+    → local_if_live n found ≡ None
 none_found n acts None is h none = refl
 none_found n acts (Some m) is h none =
     let split = making_splits n acts m is in

@@ -43,7 +43,8 @@ depth_since n o before (End ∷ later) h s = grind (arith, nat_tests)
 depth_since n o before (Make m p ∷ later) h s = depth_since n o before later h.0 (survived_before n (Make m p) later s)
 depth_since n o before (Push room ∷ later) h s = depth_since n o before later h.0 (survived_before n (Push room) later s)
 depth_since n o before (Ensure c ∷ later) h s = depth_since n o before later h.0 (survived_before n (Ensure c) later s)
-depth_since n o before (Enter ∷ later) h s = omega (arith, depth_since n o before later h.0 (survived_before n Enter later s), leaves_at_most_enters (later ++ Make n o ∷ before) h.0)
+depth_since n o before (Enter ∷ later) h s =
+    omega (arith, depth_since n o before later h.0 (survived_before n Enter later s), leaves_at_most_enters (later ++ Make n o ∷ before) h.0)
 depth_since n o before (Delete m ∷ later) h s = depth_since n o before later h.0 (survived_before n (Delete m) later s)
 depth_since n o before (Pop ∷ later) h s = depth_since n o before later h.0 (survived_before n Pop later s)
 depth_since n o before (Leave ∷ later) h s = omega (arith, depth_since n o before later h.0 (survived_before n Leave later s), h.1)
@@ -66,7 +67,14 @@ frames_since n o before (End ∷ later) h s = grind (arith, nat_tests)
 frames_since n o before (Make m p ∷ later) h s = frames_since n o before later h.0 (survived_before n (Make m p) later s)
 frames_since n o before (Push room ∷ later) h s =
     let old = survived_before n (Push room) later s in
-    grind (arith, nat_tests, frames_since n o before later h.0 old, depth_since n o before later h.0 old, pops_at_most_pushes (depth before) (later ++ Make n o ∷ before) h.0)
+    grind (
+      arith,
+      nat_tests,
+      frames_since n o before later h.0 old,
+      depth_since n o before later h.0 old,
+      pops_at_most_pushes (depth before)
+          (later ++ Make n o ∷ before) h.0,
+    )
 frames_since n o before (Ensure c ∷ later) h s = frames_since n o before later h.0 (survived_before n (Ensure c) later s)
 frames_since n o before (Enter ∷ later) h s =
     let old = survived_before n Enter later s in

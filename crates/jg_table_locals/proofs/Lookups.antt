@@ -82,7 +82,8 @@ some_of_top row false = refl
 pub has_session_law : (rows : Rows) (e : List Event) (t : ℕ) → Stands rows e → is_some (top t rows.frames) ≡ has_session (acts_of t e)
 has_session_law rows e t stands = rw (top_told rows e t stands) (some_of_top _ (has_session (acts_of t e)))
 
-pub can_pop_law : (rows : Rows) (e : List Event) (t : ℕ) (b : Bool) → Stands rows e → IsTrue b ↔ (0 < pushed t rows) → IsTrue b ↔ (0 < frames (depth (acts_of t e)) (acts_of t e))
+pub can_pop_law : (rows : Rows) (e : List Event) (t : ℕ) (b : Bool) → Stands rows e → IsTrue b ↔ (0 < pushed t rows)
+    → IsTrue b ↔ (0 < frames (depth (acts_of t e)) (acts_of t e))
 can_pop_law rows e t b stands test =
     let P : ℕ → Type 0 = λ k. IsTrue b ↔ (0 < k) in
     subst P (pushed_told rows e t stands) test
@@ -99,7 +100,8 @@ past_at : (bound : ℕ → ℕ) (rows : Rows) (e : List Event) (t : ℕ) (b : Bo
     (Some (row_of_frame t (depth (acts_of t e)) (frames (depth (acts_of t e)) (acts_of t e)) (acts_of t e))) None)
     ≡ nat_lt (bound (room_here (acts_of t e))) (held_here (acts_of t e))
 past_at bound rows e t true stands is =
-    ap (λ n. nat_lt (bound (room_here (acts_of t e))) n) (held_told rows e (row_of_frame t (depth (acts_of t e)) (frames (depth (acts_of t e)) (acts_of t e)) (acts_of t e)) stands)
+    ap (λ n. nat_lt (bound (room_here (acts_of t e))) n)
+    (held_told rows e (row_of_frame t (depth (acts_of t e)) (frames (depth (acts_of t e)) (acts_of t e)) (acts_of t e)) stands)
 past_at bound rows e t false stands is =
     let none = held_without_session (depth (acts_of t e)) (frames (depth (acts_of t e)) (acts_of t e)) (acts_of t e) (stands.allowed t) is in
     rw none (none_less (bound (room_here (acts_of t e))))

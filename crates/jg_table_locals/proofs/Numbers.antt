@@ -55,7 +55,8 @@ rising_by : (slots : List LocalSlot) (n i j : ℕ) (d : LocalSlot) → Chain is_
     → ordering_index (nat_cmp (get_or slots i d).n n) ≤ ordering_index (nat_cmp (get_or slots j d).n n)
 rising_by slots n i j d chain (inl lt) within = compared n (get_or slots i d).n (get_or slots j d).n
     (omega (arith, number_later (get_or slots i d) (get_or slots j d) (chain-at is_before slots i j d chain lt within)))
-rising_by slots n i j d chain (inr same) within = compared n (get_or slots i d).n (get_or slots j d).n (let k = ap (λ m. (get_or slots m d).n) same in omega (arith, k))
+rising_by slots n i j d chain (inr same) within =
+    compared n (get_or slots i d).n (get_or slots j d).n (let k = ap (λ m. (get_or slots m d).n) same in omega (arith, k))
 
 pub less_or_same : (i j : ℕ) → i ≤ j → (i < j) ⊎ (i ≡ j)
 less_or_same zero zero le = inr refl
@@ -88,7 +89,8 @@ low_or_high (suc i) (suc k) = later (low_or_high i k)
     later (inl lt) = inl (omega (arith, lt))
     later (inr le) = inr (omega (arith, le))
 
-parted : (slots : List LocalSlot) (n k i : ℕ) (d : LocalSlot) → IsPartitionPoint (λ s. nat_cmp s.n n ≡ Less) (λ s. nat_cmp s.n n ≡ Greater) slots k → i < length slots → (i < k) ⊎ (k ≤ i)
+parted : (slots : List LocalSlot) (n k i : ℕ) (d : LocalSlot) → IsPartitionPoint (λ s. nat_cmp s.n n ≡ Less) (λ s. nat_cmp s.n n ≡ Greater) slots k
+    → i < length slots → (i < k) ⊎ (k ≤ i)
     → ((get_or slots i d).n == n) ≡ false
 parted slots n k i d point within (inl low) = less_is (get_or slots i d).n n (point.0 i d (omega arith) low)
 parted slots n k i d point within (inr high) = greater_is (get_or slots i d).n n (point.1 i d high within)
@@ -97,17 +99,22 @@ parted slots n k i d point within (inr high) = greater_is (get_or slots i d).n n
 pub no_place : (slots : List LocalSlot) (n k : ℕ) → Chain is_before slots
     → (IsNonDecreasingBy (λ s. ordering_index (nat_cmp s.n n)) slots → IsPartitionPoint (λ s. nat_cmp s.n n ≡ Less) (λ s. nat_cmp s.n n ≡ Greater) slots k)
     → AllByRecursion (λ s. (s.n == n) ≡ false) slots
-no_place slots n k chain point = each-from (λ s. (s.n == n) ≡ false) slots (λ i d within. parted slots n k i d (point (rising slots n chain)) within (low_or_high i k))
+no_place slots n k chain point =
+    each-from (λ s. (s.n == n) ≡ false) slots (λ i d within. parted slots n k i d (point (rising slots n chain)) within (low_or_high i k))
 
 find-none : {X : Type 0} (p : X → Bool) (xs : List X) → AllByRecursion (λ x. p x ≡ false) xs → find p xs ≡ None
 find-none p [] all = refl
 find-none p (x ∷ xs) all = rw (all.0, find-none p xs all.1) refl
 
-pub no_object : (slots : List LocalSlot) (n : ℕ) → AllByRecursion (λ s. (s.n == n) ≡ false) slots → option_map (λ s. s.object) (find (λ s. s.n == n) (filter is_live slots)) ≡ None
-no_object slots n all = ap (option_map (λ s. s.object)) (find-none (λ s. s.n == n) (filter is_live slots) (each-filter (λ s. (s.n == n) ≡ false) is_live slots all))
+pub no_object : (slots : List LocalSlot) (n : ℕ) → AllByRecursion (λ s. (s.n == n) ≡ false) slots
+    → option_map (λ s. s.object) (find (λ s. s.n == n) (filter is_live slots)) ≡ None
+no_object slots n all = ap (option_map (λ s. s.object))
+    (find-none (λ s. s.n == n) (filter is_live slots) (each-filter (λ s. (s.n == n) ≡ false) is_live slots all))
 
-later_apart : (x : LocalSlot) (n : ℕ) (xs : List LocalSlot) → x.n ≡ n → AllByRecursion (λ y. is_before x y ≡ true) xs → AllByRecursion (λ y. (y.n == n) ≡ false) xs
-later_apart x n xs is all = each-map (λ y. is_before x y ≡ true) (λ y. (y.n == n) ≡ false) (λ y h. let lt = number_later x y h in grind (arith, nat_tests, lt)) xs all
+later_apart : (x : LocalSlot) (n : ℕ) (xs : List LocalSlot) → x.n ≡ n → AllByRecursion (λ y. is_before x y ≡ true) xs
+    → AllByRecursion (λ y. (y.n == n) ≡ false) xs
+later_apart x n xs is all =
+    each-map (λ y. is_before x y ≡ true) (λ y. (y.n == n) ≡ false) (λ y h. let lt = number_later x y h in grind (arith, nat_tests, lt)) xs all
 
 slot_at : (x : LocalSlot) (n : ℕ) (rest : List LocalSlot) (b : Bool) → (x.n == n) ≡ true → find (λ s. s.n == n) rest ≡ None
     → find (λ s. s.n == n) (if b then x ∷ rest else rest) ≡ (if b then Some x else None)
@@ -119,7 +126,8 @@ slot_past : (x : LocalSlot) (n : ℕ) (rest : List LocalSlot) (b : Bool) → (x.
 slot_past x n rest true is = rw is refl
 slot_past x n rest false is = refl
 
-before_it : (x : LocalSlot) (n : ℕ) (xs : List LocalSlot) (i : ℕ) (d : LocalSlot) → AllByRecursion (λ y. is_before x y ≡ true) xs → i < length xs → (get_or xs i d).n ≡ n → (x.n == n) ≡ false
+before_it : (x : LocalSlot) (n : ℕ) (xs : List LocalSlot) (i : ℕ) (d : LocalSlot) → AllByRecursion (λ y. is_before x y ≡ true) xs → i < length xs
+    → (get_or xs i d).n ≡ n → (x.n == n) ≡ false
 before_it x n xs i d all within is =
     let lt = number_later x (get_or xs i d) (each-at (λ y. is_before x y ≡ true) xs i d all within) in
     grind (arith, nat_tests, lt, is)
@@ -139,7 +147,8 @@ slot_there (x ∷ xs) n (suc i) d chain within is =
 -- and its object
 pub object_there : (slots : List LocalSlot) (n i : ℕ) (d : LocalSlot) → Chain is_before slots → i < length slots → (get_or slots i d).n ≡ n
     → option_map (λ s. s.object) (find (λ s. s.n == n) (filter is_live slots)) ≡ (if (get_or slots i d).live then Some (get_or slots i d).object else None)
-object_there slots n i d chain within is = ap (option_map (λ s. s.object)) (slot_there slots n i d chain within is) ∙ at (get_or slots i d) (get_or slots i d).live
+object_there slots n i d chain within is = ap (option_map (λ s. s.object)) (slot_there slots n i d chain within is)
+    ∙ at (get_or slots i d) (get_or slots i d).live
   where
     at : (s : LocalSlot) (b : Bool) → option_map (λ s. s.object) (if b then Some s else None) ≡ (if b then Some s.object else None)
     at s true = refl
@@ -161,7 +170,8 @@ one_of_number n (x ∷ xs) chain = at x n xs (x.n == n) refl chain.0 (one_of_num
     at x n xs false is all later = later
 
 -- no two live locals have the number
-pub one_live : (n : ℕ) (slots : List LocalSlot) → Chain is_before slots → filter (λ s. s.n == n) (filter is_live slots) ≡ option_to_list (find (λ s. s.n == n) (filter is_live slots))
+pub one_live : (n : ℕ) (slots : List LocalSlot) → Chain is_before slots
+    → filter (λ s. s.n == n) (filter is_live slots) ≡ option_to_list (find (λ s. s.n == n) (filter is_live slots))
 one_live n slots chain = one_of_number n (filter is_live slots) (chain-filter is_before is_live slots chain)
 
 -- ---- marked dead
@@ -181,17 +191,20 @@ pub marked : (slots : List LocalSlot) (n i : ℕ) (d : LocalSlot) → Chain is_b
 marked [] n i d chain within is = absurd (omega (arith, within))
 marked (x ∷ xs) n zero d chain within is =
     let apart = each-filter (λ s. (s.n == n) ≡ false) is_live xs (later_apart x n xs is chain.0) in
-    let same = filter-all (λ s. not (s.n == n)) (filter is_live xs) (each-map (λ s. (s.n == n) ≡ false) (λ s. not (s.n == n) ≡ true) (λ s h. ap not h) (filter is_live xs) apart) in
+    let same = filter-all (λ s. not (s.n == n)) (filter is_live xs)
+    (each-map (λ s. (s.n == n) ≡ false) (λ s. not (s.n == n) ≡ true) (λ s h. ap not h) (filter is_live xs) apart) in
     marked_at x n (filter is_live xs) x.live (grind (arith, nat_tests, is)) same
 marked (x ∷ xs) n (suc i) d chain within is =
     let later = marked xs n i d chain.1 (omega (arith, within)) is in
     let apart = before_it x n xs i d chain.0 (omega (arith, within)) is in
     marked_past x n (filter is_live (slice_set xs i (ended (get_or xs i d)))) (filter is_live xs) x.live apart later
 
-pub unmarked : (slots : List LocalSlot) (n : ℕ) → AllByRecursion (λ s. (s.n == n) ≡ false) slots → filter is_live slots ≡ filter (λ s. not (s.n == n)) (filter is_live slots)
+pub unmarked : (slots : List LocalSlot) (n : ℕ) → AllByRecursion (λ s. (s.n == n) ≡ false) slots
+    → filter is_live slots ≡ filter (λ s. not (s.n == n)) (filter is_live slots)
 unmarked slots n all =
     let apart = each-filter (λ s. (s.n == n) ≡ false) is_live slots all in
-    sym (filter-all (λ s. not (s.n == n)) (filter is_live slots) (each-map (λ s. (s.n == n) ≡ false) (λ s. not (s.n == n) ≡ true) (λ s h. ap not h) (filter is_live slots) apart))
+    sym (filter-all (λ s. not (s.n == n)) (filter is_live slots)
+    (each-map (λ s. (s.n == n) ≡ false) (λ s. not (s.n == n) ≡ true) (λ s h. ap not h) (filter is_live slots) apart))
 
 each-ended : (P : LocalSlot → Type 0) → ((s : LocalSlot) → P s → P (ended s)) → (xs : List LocalSlot) (i : ℕ) (d : LocalSlot) → AllByRecursion P xs
     → AllByRecursion P (slice_set xs i (ended (get_or xs i d)))
@@ -204,7 +217,8 @@ chain-ended [] i d chain = tt
 chain-ended (x ∷ xs) zero d chain = (chain.0, chain.1)
 chain-ended (x ∷ xs) (suc i) d chain = (each-ended (λ y. is_before x y ≡ true) (λ s h. h) xs i d chain.0, chain-ended xs i d chain.1)
 
-sound-ended : (slots : List LocalSlot) (frames : List Frame) (i : ℕ) (d : LocalSlot) → Sound slots frames → Sound (slice_set slots i (ended (get_or slots i d))) frames
+sound-ended : (slots : List LocalSlot) (frames : List Frame) (i : ℕ) (d : LocalSlot) → Sound slots frames
+    → Sound (slice_set slots i (ended (get_or slots i d))) frames
 sound-ended slots frames i d sound = record {
   rises = chain-ended slots i d sound.rises;
   inside = each-ended (λ s. list_any (is_in s) frames ≡ true) (λ s h. h) slots i d sound.inside;
@@ -216,7 +230,8 @@ some_left : (p : LocalSlot → Bool) (slots : List LocalSlot) → passes p (last
 some_left p [] fails = cc
 some_left p (x ∷ xs) fails = omega arith
 
-pub cut_one : (p : LocalSlot → Bool) (now old : List LocalSlot) (gone : Option LocalSlot) → old ≡ now ++ option_to_list gone → passes p (last old) ≡ false → filter p now ≡ filter p old
+pub cut_one : (p : LocalSlot → Bool) (now old : List LocalSlot) (gone : Option LocalSlot) → old ≡ now ++ option_to_list gone → passes p (last old) ≡ false
+    → filter p now ≡ filter p old
 cut_one p now old None is fails = ap (filter p) (sym (is ∙ append-nil now))
 cut_one p now old (Some x) is fails =
     let Q : List LocalSlot → Type 0 = λ l. passes p (last l) ≡ false in
@@ -225,14 +240,20 @@ cut_one p now old (Some x) is fails =
     let same : filter p (now ++ x ∷ []) ≡ filter p now = rw (filter-append, at) (append-nil _) in
     sym (ap (filter p) is ∙ same)
 
-pub sound_front : (now old : List LocalSlot) (gone : Option LocalSlot) (frames : List Frame) → old ≡ now ++ option_to_list gone → Sound old frames → Sound now frames
+pub sound_front : (now old : List LocalSlot) (gone : Option LocalSlot) (frames : List Frame) → old ≡ now ++ option_to_list gone → Sound old frames
+    → Sound now frames
 sound_front now old gone frames is sound =
     let S : List LocalSlot → Type 0 = λ l. Sound l frames in
     let there = subst S is sound in
-    record { rises = chain-front is_before now (option_to_list gone) there.rises; inside = each-front (λ s. list_any (is_in s) frames ≡ true) now (option_to_list gone) there.inside }
+    record {
+      rises = chain-front is_before now (option_to_list gone) there.rises;
+      inside =
+          each-front (λ s. list_any (is_in s) frames ≡ true) now (option_to_list gone) there.inside;
+    }
 
 pub rises_front : (now old : List LocalSlot) (gone : Option LocalSlot) → old ≡ now ++ option_to_list gone → Chain is_before old → Chain is_before now
-rises_front now old gone is chain = let S : List LocalSlot → Type 0 = λ l. Chain is_before l in chain-front is_before now (option_to_list gone) (subst S is chain)
+rises_front now old gone is chain = let S : List LocalSlot
+    → Type 0 = λ l. Chain is_before l in chain-front is_before now (option_to_list gone) (subst S is chain)
 
 below_earlier : (s t : LocalSlot) (f : Frame) → is_below t f ≡ true → is_before s t ≡ true → is_below s f ≡ true
 below_earlier s t f is h = grind (arith, nat_tests)
@@ -267,7 +288,8 @@ live_left None slots all = filter-alike is_live (stays None) slots (alike slots)
     alike : (xs : List LocalSlot) → AllByRecursion (λ s. is_live s ≡ stays None s) xs
     alike [] = tt
     alike (x ∷ xs) = (refl, alike xs)
-live_left (Some f) slots all = filter-alike is_live (stays (Some f)) slots (each-map (λ s. is_below s f ≡ true) (λ s. is_live s ≡ stays (Some f) s) (λ s h. live_below s f h) slots all)
+live_left (Some f) slots all =
+    filter-alike is_live (stays (Some f)) slots (each-map (λ s. is_below s f ≡ true) (λ s. is_live s ≡ stays (Some f) s) (λ s h. live_below s f h) slots all)
 
 -- ---- tests over what is live
 
@@ -282,23 +304,27 @@ any_live p (x ∷ xs) = at p x xs x.live (any_live p xs)
 
 -- ---- the same, as the code comes upon it: `l` is the list as the search saw it, and w what stands at the place
 
-pub marked_there : (slots : List LocalSlot) (n i : ℕ) (w : LocalSlot) → w ≡ get_or slots i w → Chain is_before slots → (i < length slots) × ((s : LocalSlot) → (get_or slots i s).n ≡ n)
+pub marked_there : (slots : List LocalSlot) (n i : ℕ) (w : LocalSlot) → w ≡ get_or slots i w → Chain is_before slots
+    → (i < length slots) × ((s : LocalSlot) → (get_or slots i s).n ≡ n)
     → filter is_live (slice_set slots i (ended w)) ≡ filter (λ s. not (s.n == n)) (filter is_live slots)
 marked_there slots n i w at chain here =
     let P : LocalSlot → Type 0 = λ x. filter is_live (slice_set slots i (ended x)) ≡ filter (λ s. not (s.n == n)) (filter is_live slots) in
     subst P (sym at) (marked slots n i w chain here.0 (here.1 w))
 
-pub sound_there : (slots : List LocalSlot) (frames : List Frame) (i : ℕ) (w : LocalSlot) → w ≡ get_or slots i w → Sound slots frames → Sound (slice_set slots i (ended w)) frames
+pub sound_there : (slots : List LocalSlot) (frames : List Frame) (i : ℕ) (w : LocalSlot) → w ≡ get_or slots i w → Sound slots frames
+    → Sound (slice_set slots i (ended w)) frames
 sound_there slots frames i w at sound =
     let P : LocalSlot → Type 0 = λ x. Sound (slice_set slots i (ended x)) frames in
     subst P (sym at) (sound-ended slots frames i w sound)
 
-pub rises_there : (slots : List LocalSlot) (i : ℕ) (w : LocalSlot) → w ≡ get_or slots i w → Chain is_before slots → Chain is_before (slice_set slots i (ended w))
+pub rises_there : (slots : List LocalSlot) (i : ℕ) (w : LocalSlot) → w ≡ get_or slots i w → Chain is_before slots
+    → Chain is_before (slice_set slots i (ended w))
 rises_there slots i w at chain =
     let P : LocalSlot → Type 0 = λ x. Chain is_before (slice_set slots i (ended x)) in
     subst P (sym at) (chain-ended slots i w chain)
 
-pub slot_found : (slots : List LocalSlot) (n i : ℕ) (w : LocalSlot) → w ≡ get_or slots i w → Chain is_before slots → (i < length slots) × ((s : LocalSlot) → (get_or slots i s).n ≡ n)
+pub slot_found : (slots : List LocalSlot) (n i : ℕ) (w : LocalSlot) → w ≡ get_or slots i w → Chain is_before slots
+    → (i < length slots) × ((s : LocalSlot) → (get_or slots i s).n ≡ n)
     → (if w.live then Some w else None) ≡ find (λ s. s.n == n) (filter is_live slots)
 slot_found slots n i w at chain here =
     let P : LocalSlot → Type 0 = λ x. (if x.live then Some x else None) ≡ find (λ s. s.n == n) (filter is_live slots) in

@@ -8,7 +8,8 @@ use Rattle.jg_table_locals.specs.Laws.{is_at_depth, begins_at, OpenFramesMean}
 use Rattle.jg_table_locals.proofs.Looking.{pops_at_most_pushes}
 
 -- since its activation began, the acts of a kind at a depth are counted by their moments
-counted : (kind : Act → Bool) (d : ℕ) (later before : List Act) (a : Act) → begins d a before ≡ true → list_any (begins_at d) (moments later (a ∷ before)) ≡ false
+counted : (kind : Act → Bool) (d : ℕ) (later before : List Act) (a : Act) → begins d a before ≡ true
+    → list_any (begins_at d) (moments later (a ∷ before)) ≡ false
     → done_at kind d (later ++ a ∷ before) ≡ how_many (is_at_depth kind d) (moments later (a ∷ before))
 counted kind d [] before a first none = rw first refl
 counted kind d (x ∷ later) before a first none =

@@ -30,13 +30,15 @@ filter_frames p [] = refl
 filter_frames p (o ∷ os) = at p o os (p o.frame) (filter_frames p os)
   where
     at : (p : Frame → Bool) (o : Opened) (os : List Opened) (b : Bool) → map frame_of (filter (λ o. p o.frame) os) ≡ filter p (map frame_of os)
-        → map frame_of (if b then o ∷ filter (λ o. p o.frame) os else filter (λ o. p o.frame) os) ≡ (if b then o.frame ∷ filter p (map frame_of os) else filter p (map frame_of os))
+        → map frame_of (if b then o ∷ filter (λ o. p o.frame) os else filter (λ o. p o.frame) os)
+        ≡ (if b then o.frame ∷ filter p (map frame_of os) else filter p (map frame_of os))
     at p o os true same = ap (λ l. o.frame ∷ l) same
     at p o os false same = same
 
 -- ---- cut at the end
 
-pub frames_cut_one : (g : Frame) (now old : List Opened) (gone : Option Opened) → old ≡ now ++ option_to_list gone → is_from g (option_map frame_of (last old)) ≡ true
+pub frames_cut_one : (g : Frame) (now old : List Opened) (gone : Option Opened) → old ≡ now ++ option_to_list gone
+    → is_from g (option_map frame_of (last old)) ≡ true
     → filter (λ o. is_under o.frame g) now ≡ filter (λ o. is_under o.frame g) old
 frames_cut_one g now old None is at = ap (filter (λ o. is_under o.frame g)) (sym (is ∙ append-nil now))
 frames_cut_one g now old (Some x) is at =
@@ -48,7 +50,8 @@ frames_cut_one g now old (Some x) is at =
     sym (ap (filter (λ o. is_under o.frame g)) is ∙ same)
 
 pub opened_front : (now old : List Opened) (gone : Option Opened) → old ≡ now ++ option_to_list gone → Chain is_opened_under old → Chain is_opened_under now
-opened_front now old gone is chain = let S : List Opened → Type 0 = λ l. Chain is_opened_under l in chain-front is_opened_under now (option_to_list gone) (subst S is chain)
+opened_front now old gone is chain = let S : List Opened
+    → Type 0 = λ l. Chain is_opened_under l in chain-front is_opened_under now (option_to_list gone) (subst S is chain)
 
 under_earlier : (f g h : Frame) → is_under f g ≡ true → is_under g h ≡ true → is_under f h ≡ true
 under_earlier f g h a b = grind (arith, nat_tests, a, b)
@@ -61,7 +64,8 @@ frames_left_by g os (Some h) chain is at =
     chain-last is_opened_under (λ o. is_under o.frame g ≡ true) os h chain is here (λ o a. under_earlier o.frame h.frame g a here)
 
 -- where the newest frame is under the other, all are
-pub frames_left : (g : Frame) (os : List Opened) → Chain is_opened_under os → is_from g (option_map frame_of (last os)) ≡ false → filter (λ o. is_under o.frame g) os ≡ os
+pub frames_left : (g : Frame) (os : List Opened) → Chain is_opened_under os → is_from g (option_map frame_of (last os)) ≡ false
+    → filter (λ o. is_under o.frame g) os ≡ os
 frames_left g os chain at = filter-all (λ o. is_under o.frame g) os (frames_left_by g os (last os) chain refl at)
 
 -- ---- found by depth and number
@@ -95,9 +99,11 @@ parted os d k place i w point within (inr high) = greater_is d k (get_or os i w)
 
 -- a search that finds no place says that no frame is the one
 pub no_place : (os : List Opened) (d k place : ℕ) → Chain is_opened_under os
-    → (IsNonDecreasingBy (λ o. ordering_index (frame_cmp d k o.frame)) os → IsPartitionPoint (λ o. frame_cmp d k o.frame ≡ Less) (λ o. frame_cmp d k o.frame ≡ Greater) os place)
+    → (IsNonDecreasingBy (λ o. ordering_index (frame_cmp d k o.frame)) os
+    → IsPartitionPoint (λ o. frame_cmp d k o.frame ≡ Less) (λ o. frame_cmp d k o.frame ≡ Greater) os place)
     → AllByRecursion (λ o. is_frame d k o.frame ≡ false) os
-no_place os d k place chain point = each-from (λ o. is_frame d k o.frame ≡ false) os (λ i w within. parted os d k place i w (point (rising os d k chain)) within (low_or_high i place))
+no_place os d k place chain point =
+    each-from (λ o. is_frame d k o.frame ≡ false) os (λ i w within. parted os d k place i w (point (rising os d k chain)) within (low_or_high i place))
 
 -- ---- changed at one frame
 
@@ -111,11 +117,13 @@ apart_above d k o p is under = grind (arith, nat_tests, is, under)
 apart_below : (d k : ℕ) (o p : Opened) → is_frame d k p.frame ≡ true → is_opened_under o p ≡ true → is_frame d k o.frame ≡ false
 apart_below d k o p is under = grind (arith, nat_tests, is, under)
 
-changed : (g : Opened → Opened) (d k : ℕ) (os : List Opened) (i : ℕ) (w : Opened) → Chain is_opened_under os → i < length os → is_frame d k (get_or os i w).frame ≡ true
+changed : (g : Opened → Opened) (d k : ℕ) (os : List Opened) (i : ℕ) (w : Opened) → Chain is_opened_under os → i < length os
+    → is_frame d k (get_or os i w).frame ≡ true
     → slice_set os i (g (get_or os i w)) ≡ map (at_frame g d k) os
 changed g d k [] i w chain within is = absurd (omega (arith, within))
 changed g d k (o ∷ os) zero w chain within is =
-    let rest = none_changed g d k os (each-map (λ p. is_opened_under o p ≡ true) (λ p. is_frame d k p.frame ≡ false) (λ p h. apart_above d k o p is h) os chain.0) in
+    let rest = none_changed g d k os
+    (each-map (λ p. is_opened_under o p ≡ true) (λ p. is_frame d k p.frame ≡ false) (λ p h. apart_above d k o p is h) os chain.0) in
     rw is (ap (λ l. g o ∷ l) rest)
 changed g d k (o ∷ os) (suc i) w chain within is =
     let apart = apart_below d k o (get_or os i w) is (each-at (λ p. is_opened_under o p ≡ true) os i w chain.0 (omega (arith, within))) in
@@ -130,7 +138,8 @@ changed_there g d k l os i w is at chain place =
     let here = subst Q is place in
     subst P (sym at) (changed g d k os i w chain here.0 (here.1 w))
 
-pub unchanged_there : (g : Opened → Opened) (d k : ℕ) (l os : List Opened) → l ≡ os → AllByRecursion (λ o. is_frame d k o.frame ≡ false) l → os ≡ map (at_frame g d k) os
+pub unchanged_there : (g : Opened → Opened) (d k : ℕ) (l os : List Opened) → l ≡ os → AllByRecursion (λ o. is_frame d k o.frame ≡ false) l
+    → os ≡ map (at_frame g d k) os
 unchanged_there g d k l os is all =
     let Q : List Opened → Type 0 = λ m. AllByRecursion (λ o. is_frame d k o.frame ≡ false) m in
     none_changed g d k os (subst Q is all)
@@ -141,7 +150,8 @@ each_there P os i w all within at = subst P (sym at) (each-at P os i w all withi
 -- ---- what a change leaves of the frames
 
 -- a count changes no frame
-pub recounted : (g : Opened → Opened) → ((o : Opened) → (g o).frame ≡ o.frame) → (d k : ℕ) (os : List Opened) → map frame_of (map (at_frame g d k) os) ≡ map frame_of os
+pub recounted : (g : Opened → Opened) → ((o : Opened) → (g o).frame ≡ o.frame) → (d k : ℕ) (os : List Opened)
+    → map frame_of (map (at_frame g d k) os) ≡ map frame_of os
 recounted g same d k [] = refl
 recounted g same d k (o ∷ os) = at g o os (is_frame d k o.frame) (same o) (recounted g same d k os)
   where
@@ -173,7 +183,8 @@ under_set room d k f g = rw ((same_place room d k f).0, (same_place room d k f).
 in_set : (room d k : ℕ) (s : LocalSlot) (f : Frame) → is_in s (room_set room d k f) ≡ is_in s f
 in_set room d k s f = rw ((same_place room d k f).0, (same_place room d k f).1) refl
 
-each_set : (room d k : ℕ) (f : Frame) (fs : List Frame) → AllByRecursion (λ g. is_under f g ≡ true) fs → AllByRecursion (λ g. is_under (room_set room d k f) g ≡ true) (map (room_set room d k) fs)
+each_set : (room d k : ℕ) (f : Frame) (fs : List Frame) → AllByRecursion (λ g. is_under f g ≡ true) fs
+    → AllByRecursion (λ g. is_under (room_set room d k f) g ≡ true) (map (room_set room d k) fs)
 each_set room d k f [] all = tt
 each_set room d k f (g ∷ fs) all = (under_set room d k f g ∙ all.0, each_set room d k f fs all.1)
 
@@ -190,7 +201,8 @@ pub kept_set : (room d k : ℕ) (slots : List LocalSlot) (fs : List Frame) → K
 kept_set room d k slots fs kept = record {
   sound = record {
     rises = kept.sound.rises;
-    inside = each-map (λ s. list_any (is_in s) fs ≡ true) (λ s. list_any (is_in s) (map (room_set room d k) fs) ≡ true) (λ s h. any_set room d k s fs ∙ h) slots kept.sound.inside;
+    inside = each-map (λ s. list_any (is_in s) fs ≡ true) (λ s. list_any (is_in s) (map (room_set room d k) fs) ≡ true) (λ s h. any_set room d k s fs ∙ h) slots
+        kept.sound.inside;
   };
   opened = chain_set room d k fs kept.opened;
   ends = kept.ends;

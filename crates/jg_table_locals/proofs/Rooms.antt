@@ -34,12 +34,14 @@ room_entered d acts is = is_opened (depth acts + 1 == d && 0 == 0) promised _ (g
 pub room_of_others_entered : (d k : ℕ) (acts : List Act) → d ≤ depth acts → frame_room d k (Enter ∷ acts) ≡ frame_room d k acts
 room_of_others_entered d k acts le = not_opened (depth acts + 1 == d && k == 0) promised (frame_room d k acts) (grind (arith, nat_tests, le))
 
-pub room_ensured : (d k c : ℕ) (acts : List Act) → d ≡ depth acts → k ≡ frames d acts → frame_room d k (Ensure c ∷ acts) ≡ greater (frame_room d k acts) (c + held d k acts)
+pub room_ensured : (d k c : ℕ) (acts : List Act) → d ≡ depth acts → k ≡ frames d acts
+    → frame_room d k (Ensure c ∷ acts) ≡ greater (frame_room d k acts) (c + held d k acts)
 room_ensured d k c acts at here =
     let is : (depth acts == d && frames d acts == k) ≡ true = grind (arith, nat_tests) in
     rw is refl
 
-pub room_of_others_ensured : (d k c : ℕ) (acts : List Act) → (d == depth acts && k == frames d acts) ≡ false → frame_room d k (Ensure c ∷ acts) ≡ frame_room d k acts
+pub room_of_others_ensured : (d k c : ℕ) (acts : List Act) → (d == depth acts && k == frames d acts) ≡ false
+    → frame_room d k (Ensure c ∷ acts) ≡ frame_room d k acts
 room_of_others_ensured d k c acts apart =
     let is : (depth acts == d && frames d acts == k) ≡ false = grind (arith, nat_tests, apart) in
     rw is (greater_none (frame_room d k acts))

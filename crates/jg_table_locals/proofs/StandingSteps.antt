@@ -14,7 +14,8 @@ use Rattle.jg_lists.proofs.Lists.{filter_swap, filter_all}
 use Rattle.jg_table_locals.proofs.LocalSteps.{keeps, rows_step}
 
 -- the rows of one local, filtered
-one_kept : (t : ℕ) (p k : LocalRow → Bool) (found : Option Local) → ((row : LocalRow) → row.tid ≡ t → p row ≡ k row) → filter p (rows_of_local t found) ≡ filter k (rows_of_local t found)
+one_kept : (t : ℕ) (p k : LocalRow → Bool) (found : Option Local) → ((row : LocalRow) → row.tid ≡ t → p row ≡ k row)
+    → filter p (rows_of_local t found) ≡ filter k (rows_of_local t found)
 one_kept t p k None alike = refl
 one_kept t p k (Some l) alike =
     let row : LocalRow = record { tid = t; n = l.n; object = l.object; depth = l.depth; frame = l.frame } in
@@ -74,13 +75,15 @@ frames_added rows u a e row was mine own t =
     rw (filter-append, was v, acts_same v u a e differ, fails) (append-nil _))
     t
 
-pub others_alike : (v u : ℕ) (g : FrameRow → FrameRow) (rows : List FrameRow) → v ≢ u → ((row : FrameRow) → (g row).tid ≡ row.tid) → ((row : FrameRow) → row.tid ≢ u → g row ≡ row)
+pub others_alike : (v u : ℕ) (g : FrameRow → FrameRow) (rows : List FrameRow) → v ≢ u → ((row : FrameRow) → (g row).tid ≡ row.tid)
+    → ((row : FrameRow) → row.tid ≢ u → g row ≡ row)
     → filter (λ row. row.tid == v) (map g rows) ≡ filter (λ row. row.tid == v) rows
 others_alike v u g [] differ keeps_tid others = refl
 others_alike v u g (row ∷ rows) differ keeps_tid others =
     at v u g row rows differ (keeps_tid row) (others row) (row.tid == v) refl (others_alike v u g rows differ keeps_tid others)
   where
-    at : (v u : ℕ) (g : FrameRow → FrameRow) (row : FrameRow) (rows : List FrameRow) → v ≢ u → (g row).tid ≡ row.tid → (row.tid ≢ u → g row ≡ row) → (b : Bool) → (row.tid == v) ≡ b
+    at : (v u : ℕ) (g : FrameRow → FrameRow) (row : FrameRow) (rows : List FrameRow) → v ≢ u → (g row).tid ≡ row.tid → (row.tid ≢ u → g row ≡ row) → (b : Bool)
+        → (row.tid == v) ≡ b
         → filter (λ row. row.tid == v) (map g rows) ≡ filter (λ row. row.tid == v) rows
         → filter (λ row. row.tid == v) (g row ∷ map g rows) ≡ filter (λ row. row.tid == v) (row ∷ rows)
     at v u g row rows differ same_tid other true is later =
@@ -138,7 +141,8 @@ pub locals_same : (rows : List LocalRow) (u : ℕ) (a : Act) (e : List Event)
 locals_same rows u a e was allowed seen all t n =
     ap (filter (is_local t n)) (sym (filter_all rows)) ∙ locals_kept rows u a e (λ row. true) was allowed seen (λ row is. all row) (λ row is. refl) t n
 
-pub allowed_more : (u : ℕ) (a : Act) (e : List Event) → ((t : ℕ) → AllAllowed (acts_of t e)) → IsAllowed a (acts_of u e) → (t : ℕ) → AllAllowed (acts_of t (by u a ∷ e))
+pub allowed_more : (u : ℕ) (a : Act) (e : List Event) → ((t : ℕ) → AllAllowed (acts_of t e)) → IsAllowed a (acts_of u e) → (t : ℕ)
+    → AllAllowed (acts_of t (by u a ∷ e))
 allowed_more u a e was now t =
     each_thread (λ v. AllAllowed (acts_of v (by u a ∷ e))) u
     (rw (acts_more u u a e refl) (was u, now))

@@ -45,12 +45,14 @@ few_at test e es v w true is fits later few =
     (fits (subst (λ (r : StackRows). length r.locals < 2 ^ 63) one few.0), few.1)
 few_at test e es v w false is fits later few = (few.0, later is few.1)
 
-few_set : (test : ℕ → Bool) (es : List (ℕ × StackRows)) (v w : StackRows) → lookup test es ≡ Some v → (length v.locals < 2 ^ 63 → length w.locals < 2 ^ 63) → AreFew es → AreFew (set_value test es w)
+few_set : (test : ℕ → Bool) (es : List (ℕ × StackRows)) (v w : StackRows) → lookup test es ≡ Some v → (length v.locals < 2 ^ 63 → length w.locals < 2 ^ 63)
+    → AreFew es → AreFew (set_value test es w)
 few_set test [] v w is fits few = few
 few_set test (e ∷ es) v w is fits few = few_at test e es v w (test e.0) is fits (λ h. few_set test es v w h fits) few
 
 -- so many locals were made in it, and so many of it ended
-pub counts_written : (old new : List (ℕ × StackRows)) (test : ℕ → Bool) (v w : StackRows) (made ended : ℕ) → new ≡ set_value test old w → lookup test old ≡ Some v
+pub counts_written : (old new : List (ℕ × StackRows)) (test : ℕ → Bool) (v w : StackRows) (made ended : ℕ) → new ≡ set_value test old w
+    → lookup test old ≡ Some v
     → length v.locals + made ≡ length w.locals + ended → (length v.locals < 2 ^ 63 → length w.locals < 2 ^ 63) → Counts made ended old new
 counts_written old new test v w made ended written is own fits = record {
   all = omega (arith, own, count_set test old v w is, ap (λ (es : List (ℕ × StackRows)). length (gather locals_of es)) written);
@@ -58,12 +60,14 @@ counts_written old new test v w made ended written is own fits = record {
 }
 
 -- so many of its locals ended
-pub counts_ended : (old new : List (ℕ × StackRows)) (test : ℕ → Bool) (v w : StackRows) (ended : ℕ) → new ≡ set_value test old w → lookup test old ≡ Some v → length v.locals ≡ length w.locals + ended
+pub counts_ended : (old new : List (ℕ × StackRows)) (test : ℕ → Bool) (v w : StackRows) (ended : ℕ) → new ≡ set_value test old w → lookup test old ≡ Some v
+    → length v.locals ≡ length w.locals + ended
     → Counts 0 ended old new
 counts_ended old new test v w ended written is own = counts_written old new test v w 0 ended written is (omega (arith, own)) (λ fits. omega (arith, own, fits))
 
 -- its locals are as they were
-pub counts_same : (old new : List (ℕ × StackRows)) (test : ℕ → Bool) (v w : StackRows) → new ≡ set_value test old w → lookup test old ≡ Some v → w.locals ≡ v.locals → Counts 0 0 old new
+pub counts_same : (old new : List (ℕ × StackRows)) (test : ℕ → Bool) (v w : StackRows) → new ≡ set_value test old w → lookup test old ≡ Some v
+    → w.locals ≡ v.locals → Counts 0 0 old new
 counts_same old new test v w written is same = counts_ended old new test v w 0 written is (omega (arith, ap length same))
 
 counts_none : (es : List (ℕ × StackRows)) → Counts 0 0 es es
@@ -91,7 +95,8 @@ count_sum (e ∷ es) =
     omega (arith, own, both, sums, count_sum es)
 
 -- its locals ended
-pub counts_dropped : (old new : List (ℕ × StackRows)) (u : ℕ) (v : StackRows) (ended : ℕ) → IsPermutation old ((u, v) ∷ new) → ended ≡ length v.locals → Counts 0 ended old new
+pub counts_dropped : (old new : List (ℕ × StackRows)) (u : ℕ) (v : StackRows) (ended : ℕ) → IsPermutation old ((u, v) ∷ new) → ended ≡ length v.locals
+    → Counts 0 ended old new
 counts_dropped old new u v ended moved is = record {
   all = omega (arith, is, count_sum old, count_sum new, sum_by_popped (λ (e : ℕ × StackRows). length e.1.locals) (u, v) old new moved);
   few =
@@ -102,7 +107,8 @@ counts_dropped old new u v ended moved is = record {
 
 -- ---- the count of all
 
-pub tallied : (old new : List (ℕ × StackRows)) (live after made ended : ℕ) → Tallied old live → (IsOnce old → IsOnce new) → Counts made ended old new → live + made ≡ after + ended → Tallied new after
+pub tallied : (old new : List (ℕ × StackRows)) (live after made ended : ℕ) → Tallied old live → (IsOnce old → IsOnce new) → Counts made ended old new
+    → live + made ≡ after + ended → Tallied new after
 tallied old new live after made ended was once counts is = record {
   once = once was.once;
   all = omega (arith, was.all, counts.all, is);
@@ -113,8 +119,10 @@ tallied old new live after made ended was once counts is = record {
 pub ended_within : (old new : List (ℕ × StackRows)) (live ended : ℕ) → Tallied old live → Counts 0 ended old new → ended ≤ live
 ended_within old new live ended was counts = omega (arith, was.all, counts.all)
 
-pub tallied_less : (old new : List (ℕ × StackRows)) (live ended : ℕ) → Tallied old live → (IsOnce old → IsOnce new) → Counts 0 ended old new → Tallied new (live - ended)
-tallied_less old new live ended was once counts = tallied old new live (live - ended) 0 ended was once counts (omega (arith, ended_within old new live ended was counts))
+pub tallied_less : (old new : List (ℕ × StackRows)) (live ended : ℕ) → Tallied old live → (IsOnce old → IsOnce new) → Counts 0 ended old new
+    → Tallied new (live - ended)
+tallied_less old new live ended was once counts =
+    tallied old new live (live - ended) 0 ended was once counts (omega (arith, ended_within old new live ended was counts))
 
 few_many : (es : List (ℕ × StackRows)) → AreFew es → length (gather locals_of es) ≤ length es * 2 ^ 63
 few_many [] few = omega arith
@@ -123,7 +131,8 @@ few_many (e ∷ es) few =
     omega (arith, rest, few.0, length-append (locals_of e.0 e.1) (gather locals_of es), length-map e.1.locals (local_row e.0))
 
 -- the stacks bound it
-pub live_bound : (seats : List (Numbered StackRows)) (stacks : List (ℕ × StackRows)) (live : ℕ) → map seen seats ≡ stacks → length seats < 2 ^ 63 → Tallied stacks live → live ≤ 2 ^ 126
+pub live_bound : (seats : List (Numbered StackRows)) (stacks : List (ℕ × StackRows)) (live : ℕ) → map seen seats ≡ stacks → length seats < 2 ^ 63
+    → Tallied stacks live → live ≤ 2 ^ 126
 live_bound seats stacks live are many was =
     let all : length stacks ≡ length seats = ap length (sym are) ∙ length-map seats seen in
     omega (arith, was.all, few_many stacks was.few, all, many)

@@ -77,7 +77,8 @@ abbrev in_entry : {V X : Type 0} → (ℕ → V → List X) → ℕ → Option V
 in_entry f t None = []
 in_entry f t (Some v) = f t v
 
-own_at : {V X : Type 0} (f : ℕ → V → List X) (tid : X → ℕ) (own : (k : ℕ) (v : V) → AllByRecursion (λ x. tid x ≡ k) (f k v)) (t : ℕ) (e : ℕ × V) (es : List (ℕ × V)) (b : Bool) → (e.0 == t) ≡ b
+own_at : {V X : Type 0} (f : ℕ → V → List X) (tid : X → ℕ) (own : (k : ℕ) (v : V) → AllByRecursion (λ x. tid x ≡ k) (f k v)) (t : ℕ) (e : ℕ × V)
+    (es : List (ℕ × V)) (b : Bool) → (e.0 == t) ≡ b
     → IsOnce (e ∷ es)
     → filter (λ x. tid x == t) (gather f es) ≡ in_entry f t (lookup (is_at (nat_cmp t)) es)
     → filter (λ x. tid x == t) (f e.0 e.1 ++ gather f es) ≡ in_entry f t (if b then Some e.1 else lookup (is_at (nat_cmp t)) es)
@@ -87,19 +88,22 @@ own_at f tid own t e es true is once later =
     (none_past_head (eq_by_cmp_equiv nat_cmp_total) t e es once key) in
     let empty = later ∙ ap (in_entry f t) none in
     let same : e.0 ≡ t = eqb-true e.0 t is in
-    let all = filter-all (λ x. tid x == t) (f e.0 e.1) (each-map (λ x. tid x ≡ e.0) (λ x. (tid x == t) ≡ true) (λ x h. here (tid x) e.0 t h same) (f e.0 e.1) (own e.0 e.1)) in
+    let all = filter-all (λ x. tid x == t) (f e.0 e.1)
+    (each-map (λ x. tid x ≡ e.0) (λ x. (tid x == t) ≡ true) (λ x h. here (tid x) e.0 t h same) (f e.0 e.1) (own e.0 e.1)) in
     rw (filter-append, empty, all, append-nil (f e.0 e.1)) (ap (λ k. f k e.1) same)
   where
     here : (a k t : ℕ) → a ≡ k → k ≡ t → (a == t) ≡ true
     here a k t is same = grind (arith, nat_tests, is, same)
 own_at f tid own t e es false is once later =
-    let none = filter-none (λ x. tid x == t) (f e.0 e.1) (each-map (λ x. tid x ≡ e.0) (λ x. (tid x == t) ≡ false) (λ x h. there (tid x) e.0 t h is) (f e.0 e.1) (own e.0 e.1)) in
+    let none = filter-none (λ x. tid x == t) (f e.0 e.1)
+    (each-map (λ x. tid x ≡ e.0) (λ x. (tid x == t) ≡ false) (λ x h. there (tid x) e.0 t h is) (f e.0 e.1) (own e.0 e.1)) in
     rw (filter-append, none) later
   where
     there : (a k t : ℕ) → a ≡ k → (k == t) ≡ false → (a == t) ≡ false
     there a k t is differ = grind (arith, nat_tests, is, differ)
 
-own_part : {V X : Type 0} (f : ℕ → V → List X) (tid : X → ℕ) (own : (k : ℕ) (v : V) → AllByRecursion (λ x. tid x ≡ k) (f k v)) (t : ℕ) (es : List (ℕ × V)) → IsOnce es
+own_part : {V X : Type 0} (f : ℕ → V → List X) (tid : X → ℕ) (own : (k : ℕ) (v : V) → AllByRecursion (λ x. tid x ≡ k) (f k v)) (t : ℕ) (es : List (ℕ × V))
+    → IsOnce es
     → filter (λ x. tid x == t) (gather f es) ≡ in_entry f t (lookup (is_at (nat_cmp t)) es)
 own_part f tid own t [] once = refl
 own_part f tid own t (e ∷ es) once =
@@ -135,7 +139,8 @@ own_frames m t ordered = own_part frames_of (λ row. row.tid) frames_own t m ord
 
 -- the thread's newest frame is its stack's
 top_seen : (m : List (ℕ × StackRows)) (t : ℕ) → IsOnce m → top t (rows_seen m).frames ≡ option_map (frame_row t) (last (frames_in (stack_at t m)))
-top_seen m t ordered = find-reverse (λ row. row.tid == t) (gather frames_of m) ∙ (ap last (own_frames m t ordered) ∙ last-map (frame_row t) (frames_in (stack_at t m)))
+top_seen m t ordered = find-reverse (λ row. row.tid == t) (gather frames_of m)
+    ∙ (ap last (own_frames m t ordered) ∙ last-map (frame_row t) (frames_in (stack_at t m)))
 
 -- ---- rows that are alike for each thread
 
@@ -149,7 +154,8 @@ alike_stand a b e locals frames stands = record {
 }
   where
     local_of : (t n : ℕ) (rows : List LocalRow) → filter (is_local t n) rows ≡ filter (λ row. row.n == n) (filter (λ row. row.tid == t) rows)
-    local_of t n rows = filter-twice (is_local t n) (λ row. row.n == n) (λ row. row.tid == t) rows (each (λ row. is_local t n row ≡ (row.tid == t && row.n == n)) (λ row. refl) rows)
+    local_of t n rows = filter-twice (is_local t n) (λ row. row.n == n) (λ row. row.tid == t) rows
+        (each (λ row. is_local t n row ≡ (row.tid == t && row.n == n)) (λ row. refl) rows)
 
 module _ {Y X : Type 0} (g : ℕ → Y → X) (tid : X → ℕ) (tied : (t : ℕ) (y : Y) → tid (g t y) ≡ t) where
   -- what a filter leaves of each thread
@@ -163,7 +169,8 @@ module _ {Y X : Type 0} (g : ℕ → Y → X) (tid : X → ℕ) (tied : (t : ℕ
       λ v. filter_swap (λ x. tid x == v) p olds ∙ (ap (filter p) (was v) ∙ filter-map p (g v) (before v)) in
       each_thread (λ v. filter (λ x. tid x == v) (filter p olds) ≡ filter (λ x. tid x == v) news) u
       (part u ∙ (ap (map (g u)) (filter-alike (λ y. p (g u y)) q (before u) (each (λ y. p (g u y) ≡ q y) mine (before u)) ∙ sym own) ∙ sym (is u)))
-      (λ v differ. part v ∙ (ap (map (g v)) (filter-all (λ y. p (g v y)) (before v) (each (λ y. p (g v y) ≡ true) (λ y. rest v y differ) (before v)) ∙ sym (others v differ)) ∙ sym (is v)))
+      (λ v differ. part v ∙ (ap (map (g v)) (filter-all (λ y. p (g v y)) (before v) (each (λ y. p (g v y) ≡ true) (λ y. rest v y differ) (before v))
+      ∙ sym (others v differ)) ∙ sym (is v)))
       t
 
   -- one row more of a thread
@@ -215,7 +222,8 @@ thin_locals : (old new : List (ℕ × StackRows)) (u : ℕ) (p : LocalRow → Bo
     → ((s : LocalSlot) → p (local_row u s) ≡ q s) → ((t : ℕ) (s : LocalSlot) → t ≢ u → p (local_row t s) ≡ true)
     → (t : ℕ) → filter (λ row. row.tid == t) (filter p (gather locals_of old)) ≡ filter (λ row. row.tid == t) (gather locals_of new)
 thin_locals old new u p q fs a b c mine rest =
-    thinned local_row local_tid (λ t s. refl) u p q (slots_at old) (slots_at new) (gather locals_of old) (gather locals_of new) (λ t. own_locals old t a) (λ t. own_locals new t b)
+    thinned local_row local_tid (λ t s. refl) u p q (slots_at old) (slots_at new) (gather locals_of old) (gather locals_of new) (λ t. own_locals old t a)
+    (λ t. own_locals new t b)
     c.locals (λ t d. ap slots_in (c.others t d)) mine rest
 
 thin_frames : (old new : List (ℕ × StackRows)) (u : ℕ) (p : FrameRow → Bool) (q : Frame → Bool) (ls : List LocalSlot) → IsOnce old → IsOnce new
@@ -223,31 +231,38 @@ thin_frames : (old new : List (ℕ × StackRows)) (u : ℕ) (p : FrameRow → Bo
     → ((f : Frame) → p (frame_row u f) ≡ q f) → ((t : ℕ) (f : Frame) → t ≢ u → p (frame_row t f) ≡ true)
     → (t : ℕ) → filter (λ row. row.tid == t) (filter p (gather frames_of old)) ≡ filter (λ row. row.tid == t) (gather frames_of new)
 thin_frames old new u p q ls a b c mine rest =
-    thinned frame_row frame_tid (λ t s. refl) u p q (frames_at old) (frames_at new) (gather frames_of old) (gather frames_of new) (λ t. own_frames old t a) (λ t. own_frames new t b)
+    thinned frame_row frame_tid (λ t s. refl) u p q (frames_at old) (frames_at new) (gather frames_of old) (gather frames_of new) (λ t. own_frames old t a)
+    (λ t. own_frames new t b)
     c.frames (λ t d. ap frames_in (c.others t d)) mine rest
 
-grow_locals : (old new : List (ℕ × StackRows)) (u : ℕ) (s : LocalSlot) (fs : List Frame) → IsOnce old → IsOnce new → Changes u old new (slots_at old u ++ s ∷ []) fs
+grow_locals : (old new : List (ℕ × StackRows)) (u : ℕ) (s : LocalSlot) (fs : List Frame) → IsOnce old → IsOnce new
+    → Changes u old new (slots_at old u ++ s ∷ []) fs
     → (t : ℕ) → filter (λ row. row.tid == t) (gather locals_of old ++ local_row u s ∷ []) ≡ filter (λ row. row.tid == t) (gather locals_of new)
 grow_locals old new u s fs a b c =
-    grown local_row local_tid (λ t s. refl) u s (slots_at old) (slots_at new) (gather locals_of old) (gather locals_of new) (λ t. own_locals old t a) (λ t. own_locals new t b) c.locals
+    grown local_row local_tid (λ t s. refl) u s (slots_at old) (slots_at new) (gather locals_of old) (gather locals_of new) (λ t. own_locals old t a)
+    (λ t. own_locals new t b) c.locals
     (λ t d. ap slots_in (c.others t d))
 
-grow_frames : (old new : List (ℕ × StackRows)) (u : ℕ) (f : Frame) (ls : List LocalSlot) → IsOnce old → IsOnce new → Changes u old new ls (frames_at old u ++ f ∷ [])
+grow_frames : (old new : List (ℕ × StackRows)) (u : ℕ) (f : Frame) (ls : List LocalSlot) → IsOnce old → IsOnce new
+    → Changes u old new ls (frames_at old u ++ f ∷ [])
     → (t : ℕ) → filter (λ row. row.tid == t) (gather frames_of old ++ frame_row u f ∷ []) ≡ filter (λ row. row.tid == t) (gather frames_of new)
 grow_frames old new u f ls a b c =
-    grown frame_row frame_tid (λ t s. refl) u f (frames_at old) (frames_at new) (gather frames_of old) (gather frames_of new) (λ t. own_frames old t a) (λ t. own_frames new t b)
+    grown frame_row frame_tid (λ t s. refl) u f (frames_at old) (frames_at new) (gather frames_of old) (gather frames_of new) (λ t. own_frames old t a)
+    (λ t. own_frames new t b)
     c.frames (λ t d. ap frames_in (c.others t d))
 
 same_locals : (old new : List (ℕ × StackRows)) (u : ℕ) (fs : List Frame) → IsOnce old → IsOnce new → Changes u old new (slots_at old u) fs
     → (t : ℕ) → filter (λ row. row.tid == t) (gather locals_of old) ≡ filter (λ row. row.tid == t) (gather locals_of new)
 same_locals old new u fs a b c =
-    unchanged local_row local_tid (λ t s. refl) u (slots_at old) (slots_at new) (gather locals_of old) (gather locals_of new) (λ t. own_locals old t a) (λ t. own_locals new t b)
+    unchanged local_row local_tid (λ t s. refl) u (slots_at old) (slots_at new) (gather locals_of old) (gather locals_of new) (λ t. own_locals old t a)
+    (λ t. own_locals new t b)
     c.locals (λ t d. ap slots_in (c.others t d))
 
 same_frames : (old new : List (ℕ × StackRows)) (u : ℕ) (ls : List LocalSlot) → IsOnce old → IsOnce new → Changes u old new ls (frames_at old u)
     → (t : ℕ) → filter (λ row. row.tid == t) (gather frames_of old) ≡ filter (λ row. row.tid == t) (gather frames_of new)
 same_frames old new u ls a b c =
-    unchanged frame_row frame_tid (λ t s. refl) u (frames_at old) (frames_at new) (gather frames_of old) (gather frames_of new) (λ t. own_frames old t a) (λ t. own_frames new t b)
+    unchanged frame_row frame_tid (λ t s. refl) u (frames_at old) (frames_at new) (gather frames_of old) (gather frames_of new) (λ t. own_frames old t a)
+    (λ t. own_frames new t b)
     c.frames (λ t d. ap frames_in (c.others t d))
 
 top_row : (m : List (ℕ × StackRows)) (t : ℕ) (f : Frame) → IsOnce m → last (frames_at m t) ≡ Some f → top t (gather frames_of m) ≡ Some (frame_row t f)
@@ -257,7 +272,8 @@ pub start_step : (old new : List (ℕ × StackRows)) (u : ℕ) (e : List Event) 
     → Changes u old new (slots_at old u) (frames_at old u ++ record { depth = 0; frame = 0; room = promised } ∷ [])
     → Stands (rows_seen old) e → Stands (rows_seen new) (by u Start ∷ e)
 start_step old new u e a b none c stands =
-    alike_stand _ (rows_seen new) (by u Start ∷ e) (same_locals old new u _ a b c) (grow_frames old new u (record { depth = 0; frame = 0; room = promised }) _ a b c)
+    alike_stand _ (rows_seen new) (by u Start ∷ e) (same_locals old new u _ a b c)
+    (grow_frames old new u (record { depth = 0; frame = 0; room = promised }) _ a b c)
     (start_law (rows_seen old) e u stands none)
 
 pub make_step : (old new : List (ℕ × StackRows)) (u n o : ℕ) (f : Frame) (e : List Event) → IsOnce old → IsOnce new → last (frames_at old u) ≡ Some f
@@ -272,14 +288,16 @@ pub push_step : (old new : List (ℕ × StackRows)) (u room : ℕ) (f : Frame) (
     → Changes u old new (slots_at old u) (frames_at old u ++ record { depth = f.depth; frame = f.frame + 1; room = room } ∷ [])
     → Stands (rows_seen old) e → Stands (rows_seen new) (by u (Push room) ∷ e)
 push_step old new u room f e a b is c stands =
-    alike_stand _ (rows_seen new) (by u (Push room) ∷ e) (same_locals old new u _ a b c) (grow_frames old new u (record { depth = f.depth; frame = f.frame + 1; room = room }) _ a b c)
+    alike_stand _ (rows_seen new) (by u (Push room) ∷ e) (same_locals old new u _ a b c)
+    (grow_frames old new u (record { depth = f.depth; frame = f.frame + 1; room = room }) _ a b c)
     (push_law (rows_seen old) e u room (frame_row u f) stands (top_row old u f a is))
 
 pub enter_step : (old new : List (ℕ × StackRows)) (u : ℕ) (f : Frame) (e : List Event) → IsOnce old → IsOnce new → last (frames_at old u) ≡ Some f
     → Changes u old new (slots_at old u) (frames_at old u ++ record { depth = f.depth + 1; frame = 0; room = promised } ∷ [])
     → Stands (rows_seen old) e → Stands (rows_seen new) (by u Enter ∷ e)
 enter_step old new u f e a b is c stands =
-    alike_stand _ (rows_seen new) (by u Enter ∷ e) (same_locals old new u _ a b c) (grow_frames old new u (record { depth = f.depth + 1; frame = 0; room = promised }) _ a b c)
+    alike_stand _ (rows_seen new) (by u Enter ∷ e) (same_locals old new u _ a b c)
+    (grow_frames old new u (record { depth = f.depth + 1; frame = 0; room = promised }) _ a b c)
     (enter_law (rows_seen old) e u (frame_row u f) stands (top_row old u f a is))
 
 pub delete_step : (old new : List (ℕ × StackRows)) (u n : ℕ) (e : List Event) → IsOnce old → IsOnce new
@@ -287,17 +305,21 @@ pub delete_step : (old new : List (ℕ × StackRows)) (u n : ℕ) (e : List Even
     → Stands (rows_seen old) e → Stands (rows_seen new) (by u (Delete n) ∷ e)
 delete_step old new u n e a b c stands =
     alike_stand _ (rows_seen new) (by u (Delete n) ∷ e)
-    (thin_locals old new u (λ row. not (row.tid == u && row.n == n)) (λ s. not (s.n == n)) _ a b c (λ s. grind (arith, nat_tests)) (λ t s d. grind (arith, nat_tests)))
+    (thin_locals old new u (λ row. not (row.tid == u && row.n == n)) (λ s. not (s.n == n)) _ a b c (λ s. grind (arith, nat_tests))
+    (λ t s d. grind (arith, nat_tests)))
     (same_frames old new u _ a b c)
     (delete_law (rows_seen old) e u n stands)
 
 pub pop_step : (old new : List (ℕ × StackRows)) (u : ℕ) (f : Frame) (e : List Event) → IsOnce old → IsOnce new → last (frames_at old u) ≡ Some f → 0 < f.frame
-    → Changes u old new (filter (λ s. not (s.depth == f.depth && s.frame == f.frame)) (slots_at old u)) (filter (λ g. not (g.depth == f.depth && g.frame == f.frame)) (frames_at old u))
+    → Changes u old new (filter (λ s. not (s.depth == f.depth && s.frame == f.frame)) (slots_at old u))
+    (filter (λ g. not (g.depth == f.depth && g.frame == f.frame)) (frames_at old u))
     → Stands (rows_seen old) e → Stands (rows_seen new) (by u Pop ∷ e)
 pop_step old new u f e a b is some c stands =
     alike_stand _ (rows_seen new) (by u Pop ∷ e)
-    (thin_locals old new u (is_not_in u f.depth f.frame) (λ s. not (s.depth == f.depth && s.frame == f.frame)) _ a b c (λ s. grind (arith, nat_tests)) (λ t s d. grind (arith, nat_tests)))
-    (thin_frames old new u (is_not_frame u f.depth f.frame) (λ g. not (g.depth == f.depth && g.frame == f.frame)) _ a b c (λ g. grind (arith, nat_tests)) (λ t g d. grind (arith, nat_tests)))
+    (thin_locals old new u (is_not_in u f.depth f.frame) (λ s. not (s.depth == f.depth && s.frame == f.frame)) _ a b c (λ s. grind (arith, nat_tests))
+    (λ t s d. grind (arith, nat_tests)))
+    (thin_frames old new u (is_not_frame u f.depth f.frame) (λ g. not (g.depth == f.depth && g.frame == f.frame)) _ a b c (λ g. grind (arith, nat_tests))
+    (λ t g d. grind (arith, nat_tests)))
     (pop_law (rows_seen old) e u (frame_row u f) stands (top_row old u f a is) some)
 
 pub leave_step : (old new : List (ℕ × StackRows)) (u : ℕ) (f : Frame) (e : List Event) → IsOnce old → IsOnce new → last (frames_at old u) ≡ Some f → 0 < f.depth
@@ -312,10 +334,12 @@ leave_step old new u f e a b is some c stands =
 -- ---- what the newest frame holds, and its room
 
 -- the rows of the frame's locals are as many as its stack's
-held_seen : (m : List (ℕ × StackRows)) (t : ℕ) (f : Frame) → IsOnce m → how_many (is_of_frame (frame_row t f)) (gather locals_of m) ≡ held_in (Some f) (slots_at m t)
+held_seen : (m : List (ℕ × StackRows)) (t : ℕ) (f : Frame) → IsOnce m
+    → how_many (is_of_frame (frame_row t f)) (gather locals_of m) ≡ held_in (Some f) (slots_at m t)
 held_seen m t f ordered =
     count-filter (λ row. row.depth == f.depth && row.frame == f.frame) (λ row. row.tid == t) (gather locals_of m)
-    ∙ (ap (how_many (λ row. row.depth == f.depth && row.frame == f.frame)) (own_locals m t ordered) ∙ how_many-map (λ row. row.depth == f.depth && row.frame == f.frame) (local_row t) (slots_at m t))
+    ∙ (ap (how_many (λ row. row.depth == f.depth && row.frame == f.frame)) (own_locals m t ordered)
+    ∙ how_many-map (λ row. row.depth == f.depth && row.frame == f.frame) (local_row t) (slots_at m t))
 
 row_set : (t d k room : ℕ) (f : Frame) → raised t d k room (frame_row t f) ≡ frame_row t (room_set room d k f)
 row_set t d k room f =
@@ -330,14 +354,16 @@ rows_set : (t d k room : ℕ) (fs : List Frame) → map (raised t d k room) (map
 rows_set t d k room [] = refl
 rows_set t d k room (f ∷ fs) = rw (row_set t d k room f, rows_set t d k room fs) refl
 
-raise_frames : (old new : List (ℕ × StackRows)) (u d k room : ℕ) (ls : List LocalSlot) → IsOnce old → IsOnce new → Changes u old new ls (map (room_set room d k) (frames_at old u))
+raise_frames : (old new : List (ℕ × StackRows)) (u d k room : ℕ) (ls : List LocalSlot) → IsOnce old → IsOnce new
+    → Changes u old new ls (map (room_set room d k) (frames_at old u))
     → (t : ℕ) → filter (λ row. row.tid == t) (map (raised u d k room) (gather frames_of old)) ≡ filter (λ row. row.tid == t) (gather frames_of new)
 raise_frames old new u d k room ls a b c t =
     let olds = gather frames_of old in
     let news = gather frames_of new in
     each_thread (λ v. filter (λ row. row.tid == v) (map (raised u d k room) olds) ≡ filter (λ row. row.tid == v) news) u
     (own_alike u (raised u d k room) olds (λ row. same_tid u d k room row)
-    ∙ (ap (map (raised u d k room)) (own_frames old u a) ∙ (rows_set u d k room (frames_at old u) ∙ (ap (map (frame_row u)) (sym c.frames) ∙ sym (own_frames new u b)))))
+    ∙ (ap (map (raised u d k room)) (own_frames old u a)
+    ∙ (rows_set u d k room (frames_at old u) ∙ (ap (map (frame_row u)) (sym c.frames) ∙ sym (own_frames new u b)))))
     (λ v differ. others_alike v u (raised u d k room) olds differ (λ row. same_tid u d k room row) (λ row other. other_raised u d k room row other)
     ∙ (own_frames old v a ∙ (ap (λ x. map (frame_row v) (frames_in x)) (sym (c.others v differ)) ∙ sym (own_frames new v b))))
     t
@@ -348,7 +374,8 @@ pub ensure_step : (old new : List (ℕ × StackRows)) (u c : ℕ) (f : Frame) (e
 ensure_step old new u c f e a b is changes stands =
     let room = greater f.room (c + held_in (Some f) (slots_at old u)) in
     let same : room_made c (frame_row u f) (gather locals_of old) ≡ room = ap (λ n. greater f.room (c + n)) (held_seen old u f a) in
-    let P : ℕ → Type 0 = λ x. Stands (record { locals = gather locals_of old; frames = map (raised u f.depth f.frame x) (gather frames_of old) }) (by u (Ensure c) ∷ e) in
+    let P : ℕ → Type 0 = λ x. Stands (record { locals = gather locals_of old; frames = map (raised u f.depth f.frame x) (gather frames_of old) })
+    (by u (Ensure c) ∷ e) in
     let law = subst P same (ensure_law (rows_seen old) e u c (frame_row u f) stands (top_row old u f a is)) in
     alike_stand _ (rows_seen new) (by u (Ensure c) ∷ e) (same_locals old new u _ a b changes) (raise_frames old new u f.depth f.frame room _ a b changes) law
 
@@ -356,7 +383,8 @@ none_left : {X : Type 0} (xs : List X) → [] ≡ filter (λ x. false) xs
 none_left [] = refl
 none_left (x ∷ xs) = none_left xs
 
-as_filtered : (u : ℕ) (old new : List (ℕ × StackRows)) → Changes u old new [] [] → Changes u old new (filter (λ s. false) (slots_at old u)) (filter (λ f. false) (frames_at old u))
+as_filtered : (u : ℕ) (old new : List (ℕ × StackRows)) → Changes u old new [] []
+    → Changes u old new (filter (λ s. false) (slots_at old u)) (filter (λ f. false) (frames_at old u))
 as_filtered u old new c = record { locals = c.locals ∙ none_left (slots_at old u); frames = c.frames ∙ none_left (frames_at old u); others = c.others }
 
 pub end_step : (old new : List (ℕ × StackRows)) (u : ℕ) (e : List Event) → IsOnce old → IsOnce new → Changes u old new [] []
@@ -380,27 +408,31 @@ object_same t (Some s) = refl
 pub object_seen : (m : List (ℕ × StackRows)) (t n : ℕ) → IsOnce m
     → option_map (λ s. s.object) (find (λ s. s.n == n) (slots_at m t)) ≡ option_map (λ row. row.object) (find (is_local t n) (gather locals_of m))
 object_seen m t n a =
-    let found = find_one t n (gather locals_of m) ∙ (ap (find (λ row. row.n == n)) (own_locals m t a) ∙ find-map (λ row. row.n == n) (local_row t) (slots_at m t)) in
+    let found = find_one t n (gather locals_of m)
+    ∙ (ap (find (λ row. row.n == n)) (own_locals m t a) ∙ find-map (λ row. row.n == n) (local_row t) (slots_at m t)) in
     sym (ap (option_map (λ row. row.object)) found ∙ object_same t (find (λ s. s.n == n) (slots_at m t)))
 
 each_tomap : {X Y : Type 0} (P : Y → Type 0) (g : X → Y) (xs : List X) → AllByRecursion (λ x. P (g x)) xs → AllByRecursion P (map g xs)
 each_tomap P g [] all = tt
 each_tomap P g (x ∷ xs) all = (all.0, each_tomap P g xs all.1)
 
-each_of_one : (t : ℕ) (P : LocalRow → Type 0) (rows : List LocalRow) → AllByRecursion P (filter (λ row. row.tid == t) rows) → AllByRecursion (λ row. row.tid ≡ t → P row) rows
+each_of_one : (t : ℕ) (P : LocalRow → Type 0) (rows : List LocalRow) → AllByRecursion P (filter (λ row. row.tid == t) rows)
+    → AllByRecursion (λ row. row.tid ≡ t → P row) rows
 each_of_one t P [] all = tt
 each_of_one t P (row ∷ rows) all = at t P row rows (row.tid == t) refl all (each_of_one t P rows)
   where
     at : (t : ℕ) (P : LocalRow → Type 0) (row : LocalRow) (rows : List LocalRow) (b : Bool) → (row.tid == t) ≡ b
         → AllByRecursion P (if b then row ∷ filter (λ row. row.tid == t) rows else filter (λ row. row.tid == t) rows)
-        → (AllByRecursion P (filter (λ row. row.tid == t) rows) → AllByRecursion (λ row. row.tid ≡ t → P row) rows) → AllByRecursion (λ row. row.tid ≡ t → P row) (row ∷ rows)
+        → (AllByRecursion P (filter (λ row. row.tid == t) rows) → AllByRecursion (λ row. row.tid ≡ t → P row) rows)
+        → AllByRecursion (λ row. row.tid ≡ t → P row) (row ∷ rows)
     at t P row rows true is all later = ((λ _. all.0), later all.1)
     at t P row rows false is all later = ((λ mine. absurd (apart row.tid t is mine)), later all)
       where
         apart : (a t : ℕ) → (a == t) ≡ false → a ≡ t → ⊥
         apart a t is mine = grind (arith, nat_tests, is, mine)
 
-pub above_slots : (m : List (ℕ × StackRows)) (t n : ℕ) → IsOnce m → All (λ row. row.tid ≡ t → row.n < n) (gather locals_of m) → All (λ s. s.n < n) (slots_at m t)
+pub above_slots : (m : List (ℕ × StackRows)) (t n : ℕ) → IsOnce m → All (λ row. row.tid ≡ t → row.n < n) (gather locals_of m)
+    → All (λ s. s.n < n) (slots_at m t)
 above_slots m t n a all =
     let kept = each-filter (λ row. row.tid ≡ t → row.n < n) (λ row. row.tid == t) (gather locals_of m) (recursion_from_All _ _ all) in
     let P : List LocalRow → Type 0 = λ l. AllByRecursion (λ row. row.tid ≡ t → row.n < n) l in
@@ -417,10 +449,12 @@ any_row : (o t : ℕ) (slots : List LocalSlot) → list_any (λ row. row.object 
 any_row o t [] = refl
 any_row o t (s ∷ slots) = ap (λ b. (s.object == o) || b) (any_row o t slots)
 
-pub any_seen : (o : ℕ) (es : List (ℕ × StackRows)) → list_any (λ v. list_any (λ s. s.object == o) v.locals) (values_of es) ≡ list_any (λ row. row.object == o) (gather locals_of es)
+pub any_seen : (o : ℕ) (es : List (ℕ × StackRows))
+    → list_any (λ v. list_any (λ s. s.object == o) v.locals) (values_of es) ≡ list_any (λ row. row.object == o) (gather locals_of es)
 any_seen o [] = refl
 any_seen o (e ∷ es) = sym (list_any-append (λ row. row.object == o) (locals_of e.0 e.1) (gather locals_of es)
-    ∙ (ap (λ b. b || list_any (λ row. row.object == o) (gather locals_of es)) (any_row o e.0 e.1.locals) ∙ ap (λ b. list_any (λ s. s.object == o) e.1.locals || b) (sym (any_seen o es))))
+    ∙ (ap (λ b. b || list_any (λ row. row.object == o) (gather locals_of es)) (any_row o e.0 e.1.locals)
+    ∙ ap (λ b. list_any (λ s. s.object == o) e.1.locals || b) (sym (any_seen o es))))
 
 some_top : (t : ℕ) (found : Option Frame) → IsSome (option_map (frame_row t) found) → IsSome found
 some_top t None is = is
@@ -432,7 +466,8 @@ room_is [] t = refl
 room_is (e ∷ es) t = at e es t (is_at (nat_cmp t) e.0) (room_is es t)
   where
     at : (e : ℕ × StackRows) (es : List (ℕ × StackRows)) (t : ℕ) (b : Bool) → room_of (rooms_seen es) t ≡ room_seen es t
-        → room_or_none (if b then Some e.1.room else lookup (is_at (nat_cmp t)) (rooms_seen es)) ≡ room_in (if b then Some e.1 else lookup (is_at (nat_cmp t)) es)
+        → room_or_none (if b then Some e.1.room else lookup (is_at (nat_cmp t)) (rooms_seen es))
+        ≡ room_in (if b then Some e.1 else lookup (is_at (nat_cmp t)) es)
     at e es t true same = refl
     at e es t false same = same
 
@@ -467,7 +502,8 @@ past_seen bound m a e t ordered is stands =
     let P : Table → Type 0 = λ v. Stands v.rows e in
     sym (ap (is_past bound (gather locals_of m)) (top_seen m t ordered) ∙ by_rows) ∙ past_law bound (rows_seen m) e t (subst P (sym is) stands)
 
-pub depth_seen : (m : List (ℕ × StackRows)) (a : Table) (t x : ℕ) (f : Option Frame) → IsOnce m → table_seen m ≡ a → f ≡ last (frames_at m t) → x ≡ depth_number (option_map (frame_row t) f)
+pub depth_seen : (m : List (ℕ × StackRows)) (a : Table) (t x : ℕ) (f : Option Frame) → IsOnce m → table_seen m ≡ a → f ≡ last (frames_at m t)
+    → x ≡ depth_number (option_map (frame_row t) f)
     → x ≡ entered t a.rows
 depth_seen m a t x f ordered is at found = found ∙ (ap (λ o. depth_number (option_map (frame_row t) o)) at ∙ ap depth_number (sym (top_in m a t ordered is)))
 
@@ -475,10 +511,12 @@ some_same : (t : ℕ) (f : Option Frame) → is_some f ≡ is_some (option_map (
 some_same t None = refl
 some_same t (Some f) = refl
 
-pub session_seen : (m : List (ℕ × StackRows)) (a : Table) (t : ℕ) (f : Option Frame) → IsOnce m → table_seen m ≡ a → f ≡ last (frames_at m t) → is_some f ≡ is_some (top t a.rows.frames)
+pub session_seen : (m : List (ℕ × StackRows)) (a : Table) (t : ℕ) (f : Option Frame) → IsOnce m → table_seen m ≡ a → f ≡ last (frames_at m t)
+    → is_some f ≡ is_some (top t a.rows.frames)
 session_seen m a t f ordered is at = some_same t f ∙ (ap (λ o. is_some (option_map (frame_row t) o)) at ∙ ap is_some (sym (top_in m a t ordered is)))
 
-pub started_top : (m : List (ℕ × StackRows)) (a : Table) (t : ℕ) (f : Option Frame) → IsOnce m → table_seen m ≡ a → f ≡ last (frames_at m t) → IsSome (top t a.rows.frames) → IsSome f
+pub started_top : (m : List (ℕ × StackRows)) (a : Table) (t : ℕ) (f : Option Frame) → IsOnce m → table_seen m ≡ a → f ≡ last (frames_at m t)
+    → IsSome (top t a.rows.frames) → IsSome f
 started_top m a t f ordered is at some =
     let Q : Option FrameRow → Type 0 = λ o. IsSome o in
     let R : Option Frame → Type 0 = λ o. IsSome o in
@@ -492,22 +530,26 @@ depth_some : (t : ℕ) (f : Option Frame) → 0 < depth_number (option_map (fram
 depth_some t None some = absurd (omega (arith, some))
 depth_some t (Some f) some = refl
 
-pub pushed_some : (m : List (ℕ × StackRows)) (a : Table) (t : ℕ) (f : Option Frame) → IsOnce m → table_seen m ≡ a → f ≡ last (frames_at m t) → 0 < pushed t a.rows → IsSome f
+pub pushed_some : (m : List (ℕ × StackRows)) (a : Table) (t : ℕ) (f : Option Frame) → IsOnce m → table_seen m ≡ a → f ≡ last (frames_at m t)
+    → 0 < pushed t a.rows → IsSome f
 pushed_some m a t f ordered is at some =
     let P : Option FrameRow → Type 0 = λ o. 0 < frame_number o in
     let R : Option Frame → Type 0 = λ o. IsSome o in
     subst R (sym at) (frame_some t (last (frames_at m t)) (subst P (top_in m a t ordered is) some))
 
-pub entered_some : (m : List (ℕ × StackRows)) (a : Table) (t : ℕ) (f : Option Frame) → IsOnce m → table_seen m ≡ a → f ≡ last (frames_at m t) → 0 < entered t a.rows → IsSome f
+pub entered_some : (m : List (ℕ × StackRows)) (a : Table) (t : ℕ) (f : Option Frame) → IsOnce m → table_seen m ≡ a → f ≡ last (frames_at m t)
+    → 0 < entered t a.rows → IsSome f
 entered_some m a t f ordered is at some =
     let P : Option FrameRow → Type 0 = λ o. 0 < depth_number o in
     let R : Option Frame → Type 0 = λ o. IsSome o in
     subst R (sym at) (depth_some t (last (frames_at m t)) (subst P (top_in m a t ordered is) some))
 
-pub pushed_is : (m : List (ℕ × StackRows)) (a : Table) (t : ℕ) (f : Frame) → IsOnce m → table_seen m ≡ a → last (frames_at m t) ≡ Some f → pushed t a.rows ≡ f.frame
+pub pushed_is : (m : List (ℕ × StackRows)) (a : Table) (t : ℕ) (f : Frame) → IsOnce m → table_seen m ≡ a → last (frames_at m t) ≡ Some f
+    → pushed t a.rows ≡ f.frame
 pushed_is m a t f ordered is at = ap frame_number (top_in m a t ordered is) ∙ ap (λ o. frame_number (option_map (frame_row t) o)) at
 
-pub entered_is : (m : List (ℕ × StackRows)) (a : Table) (t : ℕ) (f : Frame) → IsOnce m → table_seen m ≡ a → last (frames_at m t) ≡ Some f → entered t a.rows ≡ f.depth
+pub entered_is : (m : List (ℕ × StackRows)) (a : Table) (t : ℕ) (f : Frame) → IsOnce m → table_seen m ≡ a → last (frames_at m t) ≡ Some f
+    → entered t a.rows ≡ f.depth
 entered_is m a t f ordered is at = ap depth_number (top_in m a t ordered is) ∙ ap (λ o. depth_number (option_map (frame_row t) o)) at
 
 pub above_in : (m : List (ℕ × StackRows)) (a : Table) (t n : ℕ) → table_seen m ≡ a → All (λ row. row.tid ≡ t → row.n < n) a.rows.locals
@@ -552,7 +594,8 @@ spare_is m a t is = ap (λ (v : Table). spare v t) (sym is) ∙ ap (λ (r : Room
 pub starts_is : (m : List (ℕ × StackRows)) (a : Table) (t : ℕ) → table_seen m ≡ a → spare_starts a t ≡ (room_seen m t).frames
 starts_is m a t is = ap (λ (v : Table). spare_starts v t) (sym is) ∙ ap (λ (r : Room). r.frames) (room_is m t)
 
-pub room_up : (old new : List (ℕ × StackRows)) (a : Table) (t : ℕ) → table_seen old ≡ a → (room_seen old t).locals ≤ (room_seen new t).locals → spare a t ≤ spare (table_seen new) t
+pub room_up : (old new : List (ℕ × StackRows)) (a : Table) (t : ℕ) → table_seen old ≡ a → (room_seen old t).locals ≤ (room_seen new t).locals
+    → spare a t ≤ spare (table_seen new) t
 room_up old new a t is up = let x = spare_is old a t is in let y = spare_is new (table_seen new) t refl in omega (arith, x, y, up)
 
 pub starts_up : (old new : List (ℕ × StackRows)) (a : Table) (t : ℕ) → table_seen old ≡ a → (room_seen old t).frames ≤ (room_seen new t).frames
@@ -566,7 +609,8 @@ room_one old new a t is up = let x = spare_is old a t is in let y = spare_is new
 pub room_from : (old : List (ℕ × StackRows)) (a : Table) (t : ℕ) → table_seen old ≡ a → 0 < spare a t → 0 < (room_seen old t).locals
 room_from old a t is some = let x = spare_is old a t is in omega (arith, x, some)
 
-pub starts_from : (old new : List (ℕ × StackRows)) (a : Table) (t : ℕ) → table_seen old ≡ a → (room_seen old t).frames ≤ (room_seen new t).frames → 0 < spare_starts a t
+pub starts_from : (old new : List (ℕ × StackRows)) (a : Table) (t : ℕ) → table_seen old ≡ a → (room_seen old t).frames ≤ (room_seen new t).frames
+    → 0 < spare_starts a t
     → 0 < (room_seen new t).frames
 starts_from old new a t is up some = let x = starts_is old a t is in omega (arith, x, up, some)
 

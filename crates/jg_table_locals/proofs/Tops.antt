@@ -25,7 +25,8 @@ pub find-reverse : {X : Type 0} (p : X → Bool) (xs : List X) → find p (rever
 find-reverse p [] = refl
 find-reverse p (x ∷ xs) =
     let back : reverse (x ∷ xs) ≡ reverse xs ++ x ∷ [] = reverse-append (x ∷ []) xs in
-    rw (back, find-append, find-reverse p xs) (elim (p x) as (λ b. option_or (last (filter p xs)) (if b then Some x else None) ≡ last (if b then x ∷ filter p xs else filter p xs))
+    rw (back, find-append, find-reverse p xs)
+    (elim (p x) as (λ b. option_or (last (filter p xs)) (if b then Some x else None) ≡ last (if b then x ∷ filter p xs else filter p xs))
     [ true ↦ refl | false ↦ or_none (last (filter p xs)) ])
 
 last-rows_at : (t d k : ℕ) (acts : List Act) → last (rows_at t d k acts) ≡ Some (row_of_frame t d k acts)
@@ -34,7 +35,8 @@ last-rows_at t d (suc k) acts = last-push (rows_at t d k acts) _
 
 last-rows_up_to : (t d : ℕ) (acts : List Act) → last (rows_up_to t d acts) ≡ Some (row_of_frame t d (frames d acts) acts)
 last-rows_up_to t zero acts = last-rows_at t 0 (frames 0 acts) acts
-last-rows_up_to t (suc d) acts = last-append (rows_up_to t d acts) (rows_at t (suc d) (frames (suc d) acts) acts) _ (last-rows_at t (suc d) (frames (suc d) acts) acts)
+last-rows_up_to t (suc d) acts =
+    last-append (rows_up_to t d acts) (rows_at t (suc d) (frames (suc d) acts) acts) _ (last-rows_at t (suc d) (frames (suc d) acts) acts)
 
 -- the newest frame is the newest at the present depth
 last-open_frames : (t : ℕ) (acts : List Act) → last (open_frames t acts) ≡ top_of_acts t acts

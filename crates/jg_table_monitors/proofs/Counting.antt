@@ -20,7 +20,8 @@ exits_in e t o = how_many (exits o) (since (acts_of t e))
 abbrev after : Bool → Act → List Act → List Act
 after b a acts = if b then a ∷ acts else acts
 
-exit_here : (e : List Event) (t o p : ℕ) (b : Bool) → (p == o) ≡ b → 0 < count e t p → exits_in e t o ≤ entries_in e t o → (if b then exits_in e t o + 1 else exits_in e t o) ≤ entries_in e t o
+exit_here : (e : List Event) (t o p : ℕ) (b : Bool) → (p == o) ≡ b → 0 < count e t p → exits_in e t o ≤ entries_in e t o
+    → (if b then exits_in e t o + 1 else exits_in e t o) ≤ entries_in e t o
 exit_here e t o p true is some was =
     let same : p ≡ o = eqb-true p o is in
     let P : ℕ → Type 0 = λ q. 0 < count e t q in
@@ -80,7 +81,8 @@ count_release e t o = rw (eqb_self t) refl
 
 -- ---- one owner
 
-entered_by : (u p : ℕ) (e : List Event) (t o : ℕ) (b : Bool) → (p == o) ≡ b → u ≡ t → 0 < (if b then entries_in e t o + 1 else entries_in e t o) - exits_in e t o → (0 < count e t o)
+entered_by : (u p : ℕ) (e : List Event) (t o : ℕ) (b : Bool) → (p == o) ≡ b → u ≡ t
+    → 0 < (if b then entries_in e t o + 1 else entries_in e t o) - exits_in e t o → (0 < count e t o)
     ⊎ ((u ≡ t) × (Enter p ≡ Enter o))
 entered_by u p e t o true is same some = inr (same, ap (λ q. Enter q) (eqb-true p o is))
 entered_by u p e t o false is same some = inl some
@@ -125,7 +127,8 @@ one_owner (ev ∷ e) t u o all a b = owners_meet ev e t u o all.1 (one_owner e t
 
 -- ---- the owner that is found
 
-found_in : {X : Type 0} (p : X → Bool) (x y : X) (xs : List X) (b : Bool) → p y ≡ b → (Member x xs → (z : X) × ((find p xs ≡ Some z) × (p z ≡ true))) → p x ≡ true → (x ≡ y) ⊎ Member x xs
+found_in : {X : Type 0} (p : X → Bool) (x y : X) (xs : List X) (b : Bool) → p y ≡ b → (Member x xs → (z : X) × ((find p xs ≡ Some z) × (p z ≡ true)))
+    → p x ≡ true → (x ≡ y) ⊎ Member x xs
     → (z : X) × (((if b then Some y else find p xs) ≡ Some z) × (p z ≡ true))
 found_in p x y xs true is later passes there = (y, (refl, is))
 found_in p x y xs false is later passes (inl same) = absurd (clash (p y) (ap p (sym same) ∙ passes) is)
@@ -135,7 +138,8 @@ find_some : {X : Type 0} (p : X → Bool) (x : X) (xs : List X) → p x ≡ true
 find_some p x [] passes there = absurd there
 find_some p x (y ∷ ys) passes there = found_in p x y ys (p y) refl (find_some p x ys passes) passes there
 
-find_passes_by : {X : Type 0} (p : X → Bool) (y z : X) (ys : List X) (b : Bool) → p y ≡ b → (find p ys ≡ Some z → p z ≡ true) → (if b then Some y else find p ys) ≡ Some z → p z ≡ true
+find_passes_by : {X : Type 0} (p : X → Bool) (y z : X) (ys : List X) (b : Bool) → p y ≡ b → (find p ys ≡ Some z → p z ≡ true)
+    → (if b then Some y else find p ys) ≡ Some z → p z ≡ true
 find_passes_by p y z ys true is later found =
     let same : y ≡ z = same_Some y z found in
     ap p (sym same) ∙ is
@@ -146,7 +150,8 @@ find_passes p z [] found = cc
 find_passes p z (y ∷ ys) found = find_passes_by p y z ys (p y) refl (find_passes p z ys) found
 
 acted_by : (ev : Event) (e : List Event) (t o : ℕ) (b : Bool) → (ev.tid == t) ≡ b → (0 < count e t o → Member t (map (λ x. x.tid) e))
-    → 0 < how_many (enters o) (since (after b ev.act (acts_of t e))) - how_many (exits o) (since (after b ev.act (acts_of t e))) → (t ≡ ev.tid) ⊎ Member t (map (λ x. x.tid) e)
+    → 0 < how_many (enters o) (since (after b ev.act (acts_of t e))) - how_many (exits o) (since (after b ev.act (acts_of t e)))
+    → (t ≡ ev.tid) ⊎ Member t (map (λ x. x.tid) e)
 acted_by ev e t o true is older some = inl (sym (eqb-true ev.tid t is))
 acted_by ev e t o false is older some = inr (older some)
 

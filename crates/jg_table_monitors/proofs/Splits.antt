@@ -22,7 +22,8 @@ first_is a b as' bs is = cc
 
 pub splits : (acts : List Act) → SplitsAtRelease acts
 splits [] = record { before = []; whole = refl; none_since = refl; begins = λ is. refl; newest = λ a older is. cc }
-splits (ReleaseAll ∷ acts) = record { before = ReleaseAll ∷ acts; whole = refl; none_since = refl; begins = λ is. cc; newest = λ a older is. sym (first_is ReleaseAll a acts older is) }
+splits (ReleaseAll ∷ acts) =
+    record { before = ReleaseAll ∷ acts; whole = refl; none_since = refl; begins = λ is. cc; newest = λ a older is. sym (first_is ReleaseAll a acts older is) }
 splits (Enter o ∷ acts) = one_more (Enter o) acts refl refl (splits acts)
 splits (Exit o ∷ acts) = one_more (Exit o) acts refl refl (splits acts)
 
@@ -36,7 +37,8 @@ act_bounded o (Enter p) acts n below = grind (arith, nat_tests, below)
 act_bounded o (Exit p) acts n below = omega (arith, below)
 act_bounded o ReleaseAll acts n below = omega arith
 
-step_bounded : (t o : ℕ) (ev : Event) (acts : List Act) (n : ℕ) (b : Bool) → how_many (enters o) (since acts) ≤ n → how_many (enters o) (since (if b then ev.act ∷ acts else acts)) ≤ n + 1
+step_bounded : (t o : ℕ) (ev : Event) (acts : List Act) (n : ℕ) (b : Bool) → how_many (enters o) (since acts) ≤ n
+    → how_many (enters o) (since (if b then ev.act ∷ acts else acts)) ≤ n + 1
 step_bounded t o ev acts n true below = act_bounded o ev.act acts n below
 step_bounded t o ev acts n false below = omega (arith, below)
 

@@ -66,7 +66,8 @@ abbrev owner_at : Option Row → ℕ
 owner_at None = 0
 owner_at (Some row) = row.owner
 
-told_by : (e : List Event) (o : ℕ) (found : Option Owned) (was : Option ℕ) → owner e o ≡ was → AllAllowed e → row_at o found ≡ first (rows_of e o was) → Tells e o found
+told_by : (e : List Event) (o : ℕ) (found : Option Owned) (was : Option ℕ) → owner e o ≡ was → AllAllowed e → row_at o found ≡ first (rows_of e o was)
+    → Tells e o found
 told_by e o None None is all same = λ t. all_free e t o all is
 told_by e o None (Some t) is all same = cc
 told_by e o (Some w) None is all same = cc
@@ -170,7 +171,8 @@ take_law es was news e t o stands free same distinct taken =
     (free_entered e t o (at o es) (free_is t (at o es) free) stands.allowed (tells es e o stands)) distinct
     (λ q. taken q ∙ ap (λ xs. if o == q then Some (record { tid = t; count = 1 }) else at q xs) same)
 
-freed_by : (e : List Event) (t u o : ℕ) (w : Owned) (b : Bool) → (t == u) ≡ b → nat_lt 1 w.count ≡ false → w.tid ≡ t → AllAllowed e → Tells e o (Some w) → count (by t (Exit o) ∷ e) u o ≡ 0
+freed_by : (e : List Event) (t u o : ℕ) (w : Owned) (b : Bool) → (t == u) ≡ b → nat_lt 1 w.count ≡ false → w.tid ≡ t → AllAllowed e → Tells e o (Some w)
+    → count (by t (Exit o) ∷ e) u o ≡ 0
 freed_by e t u o w true is few mine all told =
     let same : t ≡ u = eqb-true t u is in
     let P : ℕ → Type 0 = λ v. count (by t (Exit o) ∷ e) v o ≡ 0 in
@@ -196,7 +198,8 @@ exit_elsewhere : (e : List Event) (t o q : ℕ) (found : Option Owned) → (o ==
 exit_elsewhere e t o q None apart told = λ u. count_other_exit e u t q o apart ∙ told u
 exit_elsewhere e t o q (Some w) apart told = (count_other_exit e w.tid t q o apart ∙ told.0, told.1)
 
-exit_each : (e : List Event) (t o q : ℕ) (w : Owned) (found : Option Owned) (b : Bool) → (o == q) ≡ b → w.tid ≡ t → AllAllowed e → Tells e o (Some w) → (o ≡ q → found ≡ Some w) → Tells e q found
+exit_each : (e : List Event) (t o q : ℕ) (w : Owned) (found : Option Owned) (b : Bool) → (o == q) ≡ b → w.tid ≡ t → AllAllowed e → Tells e o (Some w)
+    → (o ≡ q → found ≡ Some w) → Tells e q found
     → Tells (by t (Exit o) ∷ e) q (if b then lowered found else found)
 exit_each e t o q w found true is mine all here same told =
     let at : o ≡ q = eqb-true o q is in
@@ -224,7 +227,8 @@ released_by e t u q false is was =
     let differ : t ≢ u = grind (arith, nat_tests) in
     count_other_thread e u t q ReleaseAll differ ∙ was
 
-let_go : (e : List Event) (t u q : ℕ) (w : Owned) (b : Bool) → (t == u) ≡ b → w.tid ≡ t → AllAllowed e → Tells e q (Some w) → count (by t ReleaseAll ∷ e) u q ≡ 0
+let_go : (e : List Event) (t u q : ℕ) (w : Owned) (b : Bool) → (t == u) ≡ b → w.tid ≡ t → AllAllowed e → Tells e q (Some w)
+    → count (by t ReleaseAll ∷ e) u q ≡ 0
 let_go e t u q w true is mine all told =
     let P : ℕ → Type 0 = λ v. count (by t ReleaseAll ∷ e) v q ≡ 0 in
     subst P (eqb-true t u is) (count_release e t q)
@@ -233,13 +237,15 @@ let_go e t u q w false is mine all told =
     let some : 0 < count e w.tid q = omega (arith, told.0, told.1) in
     count_other_thread e u t q ReleaseAll differ ∙ zero_else e w.tid u q all some (λ same. differ (sym mine ∙ sym same))
 
-release_owned : (e : List Event) (t q : ℕ) (w : Owned) (b : Bool) → (w.tid == t) ≡ b → AllAllowed e → Tells e q (Some w) → Tells (by t ReleaseAll ∷ e) q (if not b then Some w else None)
+release_owned : (e : List Event) (t q : ℕ) (w : Owned) (b : Bool) → (w.tid == t) ≡ b → AllAllowed e → Tells e q (Some w)
+    → Tells (by t ReleaseAll ∷ e) q (if not b then Some w else None)
 release_owned e t q w true is all told = λ u. let_go e t u q w (t == u) refl (eqb-true w.tid t is) all told
 release_owned e t q w false is all told =
     let differ : t ≢ w.tid = grind (arith, nat_tests) in
     (count_other_thread e w.tid t q ReleaseAll differ ∙ told.0, told.1)
 
-release_each : (e : List Event) (t q : ℕ) (found : Option Owned) → AllAllowed e → Tells e q found → Tells (by t ReleaseAll ∷ e) q (option_filter (λ w. not (w.tid == t)) found)
+release_each : (e : List Event) (t q : ℕ) (found : Option Owned) → AllAllowed e → Tells e q found
+    → Tells (by t ReleaseAll ∷ e) q (option_filter (λ w. not (w.tid == t)) found)
 release_each e t q None all told = λ u. released_by e t u q (t == u) refl (told u)
 release_each e t q (Some w) all told = release_owned e t q w (w.tid == t) refl all told
 

@@ -34,11 +34,13 @@ marks_keep old new e same stands = record {
   once = same.once stands.once;
 }
 
-told_if : (b : Bool) (x old new : Option Kept) → new ≡ (if b then x else old) → option_map class_and_length new ≡ (if b then option_map class_and_length x else option_map class_and_length old)
+told_if : (b : Bool) (x old new : Option Kept) → new ≡ (if b then x else old)
+    → option_map class_and_length new ≡ (if b then option_map class_and_length x else option_map class_and_length old)
 told_if true x old new is = ap (option_map class_and_length) is
 told_if false x old new is = ap (option_map class_and_length) is
 
-module _ {rows : Rows} {classes count : ℕ} {there : List (ℕ × Kept)} (is : record { classes = classes; count = count; there = there } ≡ rows) (e : List Event) (stands : Stands rows e) where
+module _ {rows : Rows} {classes count : ℕ} {there : List (ℕ × Kept)} (is : record { classes = classes; count = count; there = there } ≡ rows) (e : List Event)
+    (stands : Stands rows e) where
   was : Stands (record { classes = classes; count = count; there = there }) e
   was = reopened (record { classes = classes; count = count; there = there }) rows e is stands
 

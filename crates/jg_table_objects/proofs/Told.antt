@@ -42,7 +42,8 @@ abbrev pub class_told : Option (ℕ × ℕ) → ℕ
 class_told None = 1
 class_told (Some t) = t.0
 
-class_by : (below there : Bool) (class len : ℕ) → (below ≡ true → class ≡ 1) → (if there then class else 1) ≡ class_told (if not below && there then Some (class, len) else None)
+class_by : (below there : Bool) (class len : ℕ) → (below ≡ true → class ≡ 1)
+    → (if there then class else 1) ≡ class_told (if not below && there then Some (class, len) else None)
 class_by true true class len is = is refl
 class_by true false class len is = refl
 class_by false true class len is = refl
@@ -85,14 +86,16 @@ told_made_old k m e o differ =
     let other : (o == count_of k e) ≡ false = grind (arith, nat_tests, differ) in
     rw (made, other) refl
 
-told_made_by : (k : ℕ) (m : Making) (e : List Event) (o : ℕ) (b : Bool) → (count_of k e == o) ≡ b → told k (Made m ∷ e) o ≡ (if b then Some (class_in m, length_in m) else told k e o)
+told_made_by : (k : ℕ) (m : Making) (e : List Event) (o : ℕ) (b : Bool) → (count_of k e == o) ≡ b
+    → told k (Made m ∷ e) o ≡ (if b then Some (class_in m, length_in m) else told k e o)
 told_made_by k m e o true same =
     let mine : count_of k e ≡ o = grind (arith, nat_tests, same) in
     subst (λ n. told k (Made m ∷ e) n ≡ Some (class_in m, length_in m)) mine (told_made_new k m e)
 told_made_by k m e o false differ = told_made_old k m e o (grind (arith, nat_tests, differ))
 
 -- the object of the next number is told of as it was made, and each other one as before
-pub told_made : (k : ℕ) (m : Making) (e : List Event) (o : ℕ) → told k (Made m ∷ e) o ≡ (if count_of k e == o then Some (class_in m, length_in m) else told k e o)
+pub told_made : (k : ℕ) (m : Making) (e : List Event) (o : ℕ)
+    → told k (Made m ∷ e) o ≡ (if count_of k e == o then Some (class_in m, length_in m) else told k e o)
 told_made k m e o = told_made_by k m e o (count_of k e == o) refl
 
 -- ---- objects go
@@ -110,7 +113,8 @@ none_went true true = refl
 none_went true false = refl
 none_went false below = refl
 
-one_went : (below made gone mine rest : Bool) → ((made && not (gone || (mine && (made && not below)))) && rest) ≡ ((made && not gone) && ((below || not mine) && rest))
+one_went : (below made gone mine rest : Bool)
+    → ((made && not (gone || (mine && (made && not below)))) && rest) ≡ ((made && not gone) && ((below || not mine) && rest))
 one_went below false gone mine rest = refl
 one_went below true true mine rest = refl
 one_went true true false true rest = refl
@@ -123,7 +127,8 @@ both_went there true mine listed = refl
 both_went there false true listed = refl
 both_went there false false listed = refl
 
-there_went : (k : ℕ) (objects : List ObjId) (e : List Event) (o : ℕ) → is_there k (went objects e) o ≡ (is_there k e o && (nat_lt o k || not (is_listed objects o)))
+there_went : (k : ℕ) (objects : List ObjId) (e : List Event) (o : ℕ)
+    → is_there k (went objects e) o ≡ (is_there k e o && (nat_lt o k || not (is_listed objects o)))
 there_went k [] e o = none_went (is_there k e o) (nat_lt o k)
 there_went k (x ∷ objects) e o =
     let turned : (o == x.0) ≡ (x.0 == o) = grind (arith, nat_tests) in

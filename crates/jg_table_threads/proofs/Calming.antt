@@ -33,7 +33,8 @@ one_seat rows t i j once a b = by (cases_lt i j) (cases_lt j i)
     apart x y first second before =
         let differ : eq_by_cmp nat_cmp (get_or (keys_of rows) x 0) (get_or (keys_of rows) y 0) ≡ false =
         apart_from_distinct (eq_by_cmp nat_cmp) (keys_of rows) x y 0 once before (omega (arith, second.inside, length-map rows (λ (e : ℕ × Row). e.0))) in
-        let own : eq_by_cmp nat_cmp t t ≡ false = subst (λ k. eq_by_cmp nat_cmp k t ≡ false) first.own (subst (λ k. eq_by_cmp nat_cmp (get_or (keys_of rows) x 0) k ≡ false) second.own differ) in
+        let own : eq_by_cmp nat_cmp t t ≡ false =
+        subst (λ k. eq_by_cmp nat_cmp k t ≡ false) first.own (subst (λ k. eq_by_cmp nat_cmp (get_or (keys_of rows) x 0) k ≡ false) second.own differ) in
         grind (arith, nat_tests, own)
 
     by : (i < j) ⊎ (j ≤ i) → (j < i) ⊎ (i ≤ j) → i ≡ j
@@ -42,7 +43,8 @@ one_seat rows t i j once a b = by (cases_lt i j) (cases_lt j i)
     by (inr after) (inr before) = omega (arith, after, before)
 
 -- a seat that was moved is its thread's where it was
-seat_moved : (rows new : List (ℕ × Row)) (t k l : ℕ) → l < length rows → ((d : ℕ × Row) → get_or new k d ≡ get_or rows l d) → IsSeatOf t k new → IsSeatOf t l rows
+seat_moved : (rows new : List (ℕ × Row)) (t k l : ℕ) → l < length rows → ((d : ℕ × Row) → get_or new k d ≡ get_or rows l d) → IsSeatOf t k new
+    → IsSeatOf t l rows
 seat_moved rows [] t k l inside same seat = absurd (omega (arith, seat.inside))
 seat_moved rows (d ∷ new) t k l inside same seat = record {
   inside = inside;
@@ -52,14 +54,17 @@ seat_moved rows (d ∷ new) t k l inside same seat = record {
 pub front_stays : (u raised place : ℕ) (rows : List (ℕ × Row)) → IsOnce rows → IsSeatOf u place rows → place < raised → IsInFront u raised rows
 front_stays u raised place rows once own before i seat = let same = one_seat rows u i place once seat own in omega (arith, same, before)
 
-module _ (rows new : List (ℕ × Row)) (u place raised : ℕ) (calm : AreCalm raised rows) (own : IsSeatOf u place rows) (same : (t : ℕ) → at t new ≡ at t rows) (long : length new ≡ length rows) where
+module _ (rows new : List (ℕ × Row)) (u place raised : ℕ) (calm : AreCalm raised rows) (own : IsSeatOf u place rows) (same : (t : ℕ) → at t new ≡ at t rows)
+    (long : length new ≡ length rows) where
   -- the thread's seat was brought to the front
   pub others_raised : raised ≤ place → Swaps rows new place raised → AreOthersCalm u (raised + 1) new
   others_raised behind swaps t i other seat past = subst (λ found. IfSome found IsCalm) (sym (same t)) (by (cases_eq i place))
     where
       by : (i ≡ place) ⊎ (i ≢ place) → IfSome (at t rows) IsCalm
-      by (inl here) = calm t raised (seat_moved rows new t i raised (omega (arith, behind, own.inside)) (λ d. ap (λ k. get_or new k d) here ∙ swaps.first d) seat) (omega arith)
-      by (inr there) = calm t i (seat_moved rows new t i i (omega (arith, seat.inside, long)) (λ d. swaps.others i d there (λ e. omega (arith, e, past))) seat) (omega (arith, past))
+      by (inl here) = calm t raised
+          (seat_moved rows new t i raised (omega (arith, behind, own.inside)) (λ d. ap (λ k. get_or new k d) here ∙ swaps.first d) seat) (omega arith)
+      by (inr there) = calm t i (seat_moved rows new t i i (omega (arith, seat.inside, long)) (λ d. swaps.others i d there (λ e. omega (arith, e, past))) seat)
+          (omega (arith, past))
 
   pub front_raised : IsOnce new → raised ≤ place → Swaps rows new place raised → IsInFront u (raised + 1) new
   front_raised once behind swaps i seat =
@@ -76,7 +81,8 @@ module _ (rows new : List (ℕ × Row)) (u place raised : ℕ) (calm : AreCalm r
           let moved = seat_moved rows new t i place own.inside (λ d. ap (λ k. get_or new k d) here ∙ swaps.second d) seat in
           absurd (other (sym moved.own ∙ own.own))
       by (inr there) =
-          let kept = seat_moved rows new t i i (omega (arith, seat.inside, long)) (λ d. swaps.others i d (λ e. there (omega (arith, e, before, next, past))) there) seat in
+          let kept = seat_moved rows new t i i (omega (arith, seat.inside, long))
+          (λ d. swaps.others i d (λ e. there (omega (arith, e, before, next, past))) there) seat in
           subst (λ found. IfSome found IsCalm) (sym (same t)) (calm t i kept (omega (arith, there, past, next)))
 
 -- ---- what a pass over the front finds
@@ -86,21 +92,26 @@ member_at [] i d inside = absurd (omega (arith, inside))
 member_at (x ∷ xs) zero d inside = inl refl
 member_at (x ∷ xs) (suc i) d inside = inr (member_at xs i d (omega (arith, inside)))
 
-calm_entry : (rows : List (ℕ × Row)) (raised i : ℕ) (d : ℕ × Row) → IsOnce rows → AreCalm raised rows → raised ≤ i → i < length rows → IsCalm (get_or rows i d).1
+calm_entry : (rows : List (ℕ × Row)) (raised i : ℕ) (d : ℕ × Row) → IsOnce rows → AreCalm raised rows → raised ≤ i → i < length rows
+    → IsCalm (get_or rows i d).1
 calm_entry rows raised i d once calm behind inside =
     let entry = get_or rows i d in
-    subst (λ found. IfSome found IsCalm) (entry_found entry rows once (member_at rows i d inside)) (calm entry.0 i (record { inside = inside; own = key_at rows i d inside }) behind)
+    subst (λ found. IfSome found IsCalm) (entry_found entry rows once (member_at rows i d inside))
+    (calm entry.0 i (record { inside = inside; own = key_at rows i d inside }) behind)
 
 -- the seats in front are seen as the rows in front
-pub front_seen : (seats front : List (Numbered Row)) (rows : List (ℕ × Row)) (raised : ℕ) → map seen seats ≡ rows → front ≡ take raised seats → map seen front ≡ take raised rows
+pub front_seen : (seats front : List (Numbered Row)) (rows : List (ℕ × Row)) (raised : ℕ) → map seen seats ≡ rows → front ≡ take raised seats
+    → map seen front ≡ take raised rows
 front_seen seats front rows raised is first = ap (map seen) first ∙ sym (take-map seen raised seats) ∙ ap (take raised) is
 
-module _ (p : Row → Bool) (quiet : (row : Row) → IsCalm row → p row ≡ false) (rows : List (ℕ × Row)) (raised : ℕ) (once : IsOnce rows) (calm : AreCalm raised rows) where
+module _ (p : Row → Bool) (quiet : (row : Row) → IsCalm row → p row ≡ false) (rows : List (ℕ × Row)) (raised : ℕ) (once : IsOnce rows)
+    (calm : AreCalm raised rows) where
   none_behind : list_any (λ e. p e.1) (drop raised rows) ≡ false
   none_behind =
       list_any_none (λ (e : ℕ × Row). p e.1) (drop raised rows)
       (λ k d inside. quiet (get_or (drop raised rows) k d).1
-      (subst (λ (e : ℕ × Row). IsCalm e.1) (sym (get_or-drop raised rows k d)) (calm_entry rows raised (raised + k) d once calm (omega arith) (omega (arith, inside, length-drop raised rows)))))
+      (subst (λ (e : ℕ × Row). IsCalm e.1) (sym (get_or-drop raised rows k d))
+      (calm_entry rows raised (raised + k) d once calm (omega arith) (omega (arith, inside, length-drop raised rows)))))
 
   pub any_in_front : list_any (λ e. p e.1) (take raised rows) ≡ list_any (λ e. p e.1) rows
   any_in_front =
@@ -115,7 +126,8 @@ module _ (p : Row → Bool) (quiet : (row : Row) → IsCalm row → p row ≡ fa
       ∙ either (find (λ (e : ℕ × Row). p e.1) (take raised rows)) (find (λ (e : ℕ × Row). p e.1) (drop raised rows))
       (None-if_not_some _ (any_found (λ (e : ℕ × Row). e.0) (λ e. p e.1) (drop raised rows) ∙ none_behind)))
     where
-      either : (own later : Option (ℕ × Row)) → option_map (λ (e : ℕ × Row). e.0) later ≡ None → option_map (λ (e : ℕ × Row). e.0) (option_or own later) ≡ option_map (λ (e : ℕ × Row). e.0) own
+      either : (own later : Option (ℕ × Row)) → option_map (λ (e : ℕ × Row). e.0) later ≡ None
+          → option_map (λ (e : ℕ × Row). e.0) (option_or own later) ≡ option_map (λ (e : ℕ × Row). e.0) own
       either None later none = none
       either (Some e) later none = refl
 

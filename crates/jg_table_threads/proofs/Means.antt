@@ -16,7 +16,8 @@ record Found (act : Act) (Keeps : List Act → Type 0) (acts : List Act) : Type 
   splits : acts ≡ later ++ act ∷ before
   kept : Keeps later
 
-one_later : (act : Act) (Keeps : List Act → Type 0) (a : Act) (acts : List Act) → ((later : List Act) → Keeps later → Keeps (a ∷ later)) → Found act Keeps acts → Found act Keeps (a ∷ acts)
+one_later : (act : Act) (Keeps : List Act → Type 0) (a : Act) (acts : List Act) → ((later : List Act) → Keeps later → Keeps (a ∷ later)) → Found act Keeps acts
+    → Found act Keeps (a ∷ acts)
 one_later act Keeps a acts keeps found =
     record { later = a ∷ found.later; before = found.before; splits = ap (λ xs. a ∷ xs) found.splits; kept = keeps found.later found.kept }
 

@@ -18,7 +18,8 @@ use Rattle.jg_table_threads.specs.History.{Event, acts_of, pending, is_object, i
 use Rattle.jg_table_threads.specs.Rows.{Row, row_or_none}
 use Rattle.jg_table_threads.specs.Standing.{row_after, Stands}
 
-some_at : (q : Event → Bool) (ev : Event) (e : List Event) (b : Bool) → q ev ≡ b → list_any q (ev ∷ e) ≡ true → (list_any q e ≡ true → (v : Event) × (q v ≡ true)) → (v : Event) × (q v ≡ true)
+some_at : (q : Event → Bool) (ev : Event) (e : List Event) (b : Bool) → q ev ≡ b → list_any q (ev ∷ e) ≡ true
+    → (list_any q e ≡ true → (v : Event) × (q v ≡ true)) → (v : Event) × (q v ≡ true)
 some_at q ev e true here is later = (ev, here)
 some_at q ev e false here is later = later (rw here at is)
 
@@ -50,7 +51,8 @@ is_pending_by e o t is =
     event_of (λ ev. is_object o (pending (acts_of ev.tid e))) t o e (object_is o (pending (acts_of t e)) is) (λ v mine. subst P (sym mine) is)
 
 -- what a thread's row says is pending is what it did
-pending_in : (e : List Event) (o t : ℕ) (found : Option Row) → row_or_none found ≡ row_after e t → is_object o (row_or_none found).pending ≡ is_object o (pending (acts_of t e))
+pending_in : (e : List Event) (o t : ℕ) (found : Option Row) → row_or_none found ≡ row_after e t
+    → is_object o (row_or_none found).pending ≡ is_object o (pending (acts_of t e))
 pending_in e o t found is = ap (λ (row : Row). is_object o row.pending) is
 
 row_at : (e : List Event) (o t : ℕ) (b : Bool) (found : Option Row) → row_or_none found ≡ row_after e t → is_object o (pending (acts_of t e)) ≡ b → b ≡ false
@@ -58,11 +60,13 @@ row_at : (e : List Event) (o t : ℕ) (b : Bool) (found : Option Row) → row_or
 row_at e o t b None is here none = tt
 row_at e o t b (Some row) is here none = pending_in e o t (Some row) is ∙ here ∙ none
 
-no_row_at : (rows : List (ℕ × Row)) (e : List Event) (o t : ℕ) (b : Bool) → Stands rows e → is_pending e o ≡ false → is_object o (pending (acts_of t e)) ≡ b → b ≡ false
+no_row_at : (rows : List (ℕ × Row)) (e : List Event) (o t : ℕ) (b : Bool) → Stands rows e → is_pending e o ≡ false → is_object o (pending (acts_of t e)) ≡ b
+    → b ≡ false
 no_row_at rows e o t true stands none here = sym (is_pending_by e o t here) ∙ none
 no_row_at rows e o t false stands none here = refl
 
-value_at : (p : Row → Bool) (test : ℕ → Bool) (entry : ℕ × Row) (rows : List (ℕ × Row)) (row : Row) (b : Bool) → test entry.0 ≡ b → lookup test (entry ∷ rows) ≡ Some row → p row ≡ true
+value_at : (p : Row → Bool) (test : ℕ → Bool) (entry : ℕ × Row) (rows : List (ℕ × Row)) (row : Row) (b : Bool) → test entry.0 ≡ b
+    → lookup test (entry ∷ rows) ≡ Some row → p row ≡ true
     → (lookup test rows ≡ Some row → list_any p (values_of rows) ≡ true) → list_any p (values_of (entry ∷ rows)) ≡ true
 value_at p test entry rows row true mine is here later =
     let same : Some entry.1 ≡ Some row = rw mine at is in
@@ -72,16 +76,19 @@ value_at p test entry rows row false mine is here later =
     let found = later (rw mine at is) in
     grind (arith, nat_tests)
 
-value_there : (p : Row → Bool) (test : ℕ → Bool) (rows : List (ℕ × Row)) (row : Row) → lookup test rows ≡ Some row → p row ≡ true → list_any p (values_of rows) ≡ true
+value_there : (p : Row → Bool) (test : ℕ → Bool) (rows : List (ℕ × Row)) (row : Row) → lookup test rows ≡ Some row → p row ≡ true
+    → list_any p (values_of rows) ≡ true
 value_there p test [] row is here = cc
 value_there p test (entry ∷ rows) row is here = value_at p test entry rows row (test entry.0) refl is here (λ h. value_there p test rows row h here)
 
-some_value : (rows : List (ℕ × Row)) (e : List Event) (o t : ℕ) (found : Option Row) → lookup (is_at (nat_cmp t)) rows ≡ found → row_or_none found ≡ row_after e t
+some_value : (rows : List (ℕ × Row)) (e : List Event) (o t : ℕ) (found : Option Row) → lookup (is_at (nat_cmp t)) rows ≡ found
+    → row_or_none found ≡ row_after e t
     → is_object o (pending (acts_of t e)) ≡ true → list_any (λ row. is_object o row.pending) (values_of rows) ≡ true
 some_value rows e o t None looked is here =
     let none = pending_in e o t None is in
     cc
-some_value rows e o t (Some row) looked is here = value_there (λ row. is_object o row.pending) (is_at (nat_cmp t)) rows row looked (pending_in e o t (Some row) is ∙ here)
+some_value rows e o t (Some row) looked is here =
+    value_there (λ row. is_object o row.pending) (is_at (nat_cmp t)) rows row looked (pending_in e o t (Some row) is ∙ here)
 
 by_cases : (rows : List (ℕ × Row)) (e : List Event) (o : ℕ) (b : Bool) → IsOnce rows → Stands rows e → is_pending e o ≡ b
     → list_any (λ row. is_object o row.pending) (values_of rows) ≡ b
@@ -116,20 +123,24 @@ entry_found entry (row ∷ rows) once (inl same) =
     itself n = grind (arith, nat_tests)
 entry_found entry (row ∷ rows) once (inr later) =
     let apart : eq_by_cmp nat_cmp row.0 entry.0 ≡ false =
-    at_member (λ k. eq_by_cmp nat_cmp row.0 k ≡ false) entry.0 (keys_of rows) (IsDistinct-head (eq_by_cmp nat_cmp) row.0 (keys_of rows) once) (key_member entry rows later) in
+    at_member (λ k. eq_by_cmp nat_cmp row.0 k ≡ false) entry.0 (keys_of rows) (IsDistinct-head (eq_by_cmp nat_cmp) row.0 (keys_of rows) once)
+    (key_member entry rows later) in
     let other : is_at (nat_cmp entry.0) row.0 ≡ false = grind (arith, nat_tests, apart) in
     rw other (entry_found entry rows (IsDistinct-tail (eq_by_cmp nat_cmp) row.0 (keys_of rows) once) later)
 
 -- something is found where the object is pending
-pub held_law : (rows : List (ℕ × Row)) (e : List Event) (o : ℕ) → IsOnce rows → Stands rows e → is_some (number_where (λ row. is_object o row.pending) rows) ≡ is_pending e o
+pub held_law : (rows : List (ℕ × Row)) (e : List Event) (o : ℕ) → IsOnce rows → Stands rows e
+    → is_some (number_where (λ row. is_object o row.pending) rows) ≡ is_pending e o
 held_law rows e o once stands =
     any_found (λ (entry : ℕ × Row). entry.0) (λ entry. is_object o entry.1.pending) rows
     ∙ list_any-map (λ (entry : ℕ × Row). entry.1) (λ entry. is_object o entry.1.pending) (λ row. is_object o row.pending) (λ entry. refl) rows
     ∙ pending_law rows e o once stands
 
 -- and in the thread that is found it is
-pub named_law : (rows : List (ℕ × Row)) (e : List Event) (o : ℕ) → IsOnce rows → Stands rows e → IfSome (number_where (λ row. is_object o row.pending) rows) (λ t. pending (acts_of t e) ≡ Some o)
-named_law rows e o once stands = by (find (λ (entry : ℕ × Row). is_object o entry.1.pending) rows) (is_found (λ (entry : ℕ × Row). is_object o entry.1.pending) rows)
+pub named_law : (rows : List (ℕ × Row)) (e : List Event) (o : ℕ) → IsOnce rows → Stands rows e
+    → IfSome (number_where (λ row. is_object o row.pending) rows) (λ t. pending (acts_of t e) ≡ Some o)
+named_law rows e o once stands =
+    by (find (λ (entry : ℕ × Row). is_object o entry.1.pending) rows) (is_found (λ (entry : ℕ × Row). is_object o entry.1.pending) rows)
   where
     by : (found : Option (ℕ × Row)) → IfSome found (λ entry. Member entry rows × (is_object o entry.1.pending ≡ true))
         → IfSome (option_map (λ (entry : ℕ × Row). entry.0) found) (λ t. pending (acts_of t e) ≡ Some o)

@@ -111,21 +111,25 @@ stands_more : (old new : List (ℕ × Row)) (e : List Event) (u : ℕ) (a : Act)
 stands_more old new e u a was_once once stands now others here =
     stands_by new (by u a ∷ e) once
     (each_acted (λ t acts. AllAllowed acts) u a e (λ t differ. stands.allowed t) (stands.allowed u, now))
-    (each_acted (λ t acts. lookup (is_at (nat_cmp t)) new ≡ row_if (was_attached acts) acts) u a e (λ t differ. others t differ ∙ found_law old e t was_once stands) here)
+    (each_acted (λ t acts. lookup (is_at (nat_cmp t)) new ≡ row_if (was_attached acts) acts) u a e
+    (λ t differ. others t differ ∙ found_law old e t was_once stands) here)
 
 -- ---- a row is changed
 
 -- the row of the thread is changed, where it has one, and the others are as they were
 abbrev pub Written : List (ℕ × Row) → List (ℕ × Row) → ℕ → (Row → Row) → Type 0
-Written old new u change = (t : ℕ) → lookup (is_at (nat_cmp t)) new ≡ (if u == t then option_map change (lookup (is_at (nat_cmp t)) old) else lookup (is_at (nat_cmp t)) old)
+Written old new u change = (t : ℕ)
+    → lookup (is_at (nat_cmp t)) new ≡ (if u == t then option_map change (lookup (is_at (nat_cmp t)) old) else lookup (is_at (nat_cmp t)) old)
 
-written_other : (old new : List (ℕ × Row)) (u : ℕ) (change : Row → Row) → Written old new u change → (t : ℕ) → t ≢ u → lookup (is_at (nat_cmp t)) new ≡ lookup (is_at (nat_cmp t)) old
+written_other : (old new : List (ℕ × Row)) (u : ℕ) (change : Row → Row) → Written old new u change → (t : ℕ) → t ≢ u
+    → lookup (is_at (nat_cmp t)) new ≡ lookup (is_at (nat_cmp t)) old
 written_other old new u change written t differ =
     let other : (u == t) ≡ false = grind (arith, nat_tests) in
     let here = written t in
     rw other at here
 
-written_here : (old new : List (ℕ × Row)) (u : ℕ) (change : Row → Row) → Written old new u change → lookup (is_at (nat_cmp u)) new ≡ option_map change (lookup (is_at (nat_cmp u)) old)
+written_here : (old new : List (ℕ × Row)) (u : ℕ) (change : Row → Row) → Written old new u change
+    → lookup (is_at (nat_cmp u)) new ≡ option_map change (lookup (is_at (nat_cmp u)) old)
 written_here old new u change written =
     let same : (u == u) ≡ true = grind (arith, nat_tests) in
     let here = written u in
@@ -137,7 +141,8 @@ row_written acts more change false is = refl
 
 -- an act that attaches nobody changes the row to that of what was done with it
 written_law : (old new rows : List (ℕ × Row)) (e : List Event) (u : ℕ) (a : Act) (change : Row → Row) → old ≡ rows → IsOnce old → IsOnce new
-    → Stands rows e → IsAllowed a (acts_of u e) → was_attached (a ∷ acts_of u e) ≡ was_attached (acts_of u e) → change (row_by (acts_of u e)) ≡ row_by (a ∷ acts_of u e) → Written old new u change
+    → Stands rows e → IsAllowed a (acts_of u e) → was_attached (a ∷ acts_of u e) ≡ was_attached (acts_of u e)
+    → change (row_by (acts_of u e)) ≡ row_by (a ∷ acts_of u e) → Written old new u change
     → Stands new (by u a ∷ e)
 written_law old new rows e u a change seen was_once once stands now quiet is written =
     let was : Stands old e = subst (λ (r : List (ℕ × Row)). Stands r e) (sym seen) stands in
@@ -151,12 +156,14 @@ written_law old new rows e u a change seen was_once once stands now quiet is wri
 
 pub detach_law : (old new rows : List (ℕ × Row)) (e : List Event) (u : ℕ) → old ≡ rows → IsOnce old → IsOnce new
     → Stands rows e → Written old new u (λ (r : Row). record r { attached = false; depth = 0; pending = None }) → Stands new (by u Detach ∷ e)
-detach_law old new rows e u seen was_once once stands = written_law old new rows e u Detach (λ (r : Row). record r { attached = false; depth = 0; pending = None }) seen was_once once stands tt refl
+detach_law old new rows e u seen was_once once stands =
+    written_law old new rows e u Detach (λ (r : Row). record r { attached = false; depth = 0; pending = None }) seen was_once once stands tt refl
     refl
 
 pub calm_law : (old new rows : List (ℕ × Row)) (e : List Event) (u : ℕ) → old ≡ rows → IsOnce old → IsOnce new
     → Stands rows e → Written old new u (λ (r : Row). record r { pending = None }) → Stands new (by u Calm ∷ e)
-calm_law old new rows e u seen was_once once stands = written_law old new rows e u Calm (λ (r : Row). record r { pending = None }) seen was_once once stands tt refl
+calm_law old new rows e u seen was_once once stands =
+    written_law old new rows e u Calm (λ (r : Row). record r { pending = None }) seen was_once once stands tt refl
     refl
 
 -- the thread is attached, by its row
@@ -178,7 +185,8 @@ count_ref_law old new rows e u seen was_once once stands on =
     refl
 
 pub count_buffer_law : (old new rows : List (ℕ × Row)) (e : List Event) (u : ℕ) → old ≡ rows → IsOnce old → IsOnce new
-    → Stands rows e → IsTrue (row_of rows u).attached → Written old new u (λ (r : Row). record r { buffers = r.buffers + 1 }) → Stands new (by u CountBuffer ∷ e)
+    → Stands rows e → IsTrue (row_of rows u).attached → Written old new u (λ (r : Row). record r { buffers = r.buffers + 1 })
+    → Stands new (by u CountBuffer ∷ e)
 count_buffer_law old new rows e u seen was_once once stands on =
     written_law old new rows e u CountBuffer (λ (r : Row). record r { buffers = r.buffers + 1 }) seen was_once once
     stands (on_by rows e u stands on) refl
@@ -189,7 +197,8 @@ deeper acts h = omega (arith, leaves_at_most acts h)
 
 pub enter_law : (old new rows : List (ℕ × Row)) (e : List Event) (u : ℕ) → old ≡ rows → IsOnce old → IsOnce new
     → Stands rows e → IsTrue (row_of rows u).attached → Written old new u (λ (r : Row). record r { depth = r.depth + 1 }) → Stands new (by u Enter ∷ e)
-enter_law old new rows e u seen was_once once stands on = written_law old new rows e u Enter (λ (r : Row). record r { depth = r.depth + 1 }) seen was_once once stands (on_by rows e u stands on) refl
+enter_law old new rows e u seen was_once once stands on =
+    written_law old new rows e u Enter (λ (r : Row). record r { depth = r.depth + 1 }) seen was_once once stands (on_by rows e u stands on) refl
     (ap (λ (d : ℕ). record (row_by (acts_of u e)) { depth = d }) (deeper (acts_of u e) (stands.allowed u)))
 
 less_deep : (acts : List Act) → depth acts - 1 ≡ depth (Leave ∷ acts)
@@ -208,7 +217,8 @@ leave_law old new rows e u seen was_once once stands inside =
 abbrev pub Put : List (ℕ × Row) → List (ℕ × Row) → ℕ → Row → Type 0
 Put old new u row = (t : ℕ) → lookup (is_at (nat_cmp t)) new ≡ (if u == t then Some row else lookup (is_at (nat_cmp t)) old)
 
-put_other : (old new : List (ℕ × Row)) (u : ℕ) (row : Row) → Put old new u row → (t : ℕ) → t ≢ u → lookup (is_at (nat_cmp t)) new ≡ lookup (is_at (nat_cmp t)) old
+put_other : (old new : List (ℕ × Row)) (u : ℕ) (row : Row) → Put old new u row → (t : ℕ) → t ≢ u
+    → lookup (is_at (nat_cmp t)) new ≡ lookup (is_at (nat_cmp t)) old
 put_other old new u row put t differ =
     let other : (u == t) ≡ false = grind (arith, nat_tests) in
     let here = put t in
@@ -226,13 +236,15 @@ attached_now acts off =
     ap (λ (n : ℕ). record (row_by acts) { attached = true; sessions = n }) next
 
 pub attach_law : (old new rows : List (ℕ × Row)) (e : List Event) (u : ℕ) (r : Row) → old ≡ rows → IsOnce old → IsOnce new
-    → Stands rows e → r ≡ row_of rows u → r.attached ≡ false → Put old new u (record r { attached = true; sessions = r.sessions + 1 }) → Stands new (by u Attach ∷ e)
+    → Stands rows e → r ≡ row_of rows u → r.attached ≡ false → Put old new u (record r { attached = true; sessions = r.sessions + 1 })
+    → Stands new (by u Attach ∷ e)
 attach_law old new rows e u r seen was_once once stands is off put =
     let was : Stands old e = subst (λ (r : List (ℕ × Row)). Stands r e) (sym seen) stands in
     let row = is ∙ stands.threads u in
     stands_more old new e u Attach was_once once was tt (put_other old new u _ put)
     (put_here old new u _ put
-    ∙ ap Some (ap (λ (r : Row). record r { attached = true; sessions = r.sessions + 1 }) row ∙ attached_now (acts_of u e) (sym (ap (λ (r : Row). r.attached) row) ∙ off)))
+    ∙ ap Some (ap (λ (r : Row). record r { attached = true; sessions = r.sessions + 1 }) row
+    ∙ attached_now (acts_of u e) (sym (ap (λ (r : Row). r.attached) row) ∙ off)))
 
 same_session : (acts : List Act) → attached acts ≡ true → row_by acts ≡ row_by (Attach ∷ acts)
 same_session acts on =
@@ -243,11 +255,13 @@ wanted_still : (acts : List Act) → was_attached acts ≡ true → rows_wanted 
 wanted_still acts was = rw was refl
 
 -- an attached thread is attached once more
-pub attach_again_law : (rows : List (ℕ × Row)) (e : List Event) (u : ℕ) (r : Row) → Stands rows e → r ≡ row_of rows u → r.attached ≡ true → Stands rows (by u Attach ∷ e)
+pub attach_again_law : (rows : List (ℕ × Row)) (e : List Event) (u : ℕ) (r : Row) → Stands rows e → r ≡ row_of rows u → r.attached ≡ true
+    → Stands rows (by u Attach ∷ e)
 attach_again_law rows e u r stands is on =
     let here : attached (acts_of u e) ≡ true = sym (ap (λ (r : Row). r.attached) (is ∙ stands.threads u)) ∙ on in
     record {
-      threads = each_acted (λ t acts. row_of rows t ≡ row_by acts) u Attach e (λ t differ. stands.threads t) (stands.threads u ∙ same_session (acts_of u e) here);
+      threads = each_acted (λ t acts. row_of rows t ≡ row_by acts) u Attach e (λ t differ. stands.threads t)
+          (stands.threads u ∙ same_session (acts_of u e) here);
       once = each_acted (λ t acts. how_many (λ row. row.0 == t) rows ≡ rows_wanted acts) u Attach e (λ t differ. stands.once t) (stands.once u
           ∙ wanted_still (acts_of u e) (once_attached (acts_of u e) here));
       allowed = each_acted (λ t acts. AllAllowed acts) u Attach e (λ t differ. stands.allowed t) (stands.allowed u, tt);
@@ -269,15 +283,19 @@ replaced_at u t old change false differs = refl
 
 -- the thread's row is replaced by what a change makes of it
 pub written_by : (old new : List (ℕ × Row)) (u : ℕ) (change : Row → Row) (row : Row) → row ≡ change (row_of old u)
-    → ((t : ℕ) → lookup (is_at (nat_cmp t)) new ≡ (if u == t then option_map (λ _. row) (lookup (is_at (nat_cmp t)) old) else lookup (is_at (nat_cmp t)) old)) → Written old new u change
+    → ((t : ℕ) → lookup (is_at (nat_cmp t)) new ≡ (if u == t then option_map (λ _. row) (lookup (is_at (nat_cmp t)) old) else lookup (is_at (nat_cmp t)) old))
+    → Written old new u change
 written_by old new u change row is put t =
-    put t ∙ ap (λ r. if u == t then option_map (λ _. r) (lookup (is_at (nat_cmp t)) old) else lookup (is_at (nat_cmp t)) old) is ∙ replaced_at u t old change (u == t) refl
+    put t ∙ ap (λ r. if u == t then option_map (λ _. r) (lookup (is_at (nat_cmp t)) old) else lookup (is_at (nat_cmp t)) old) is
+    ∙ replaced_at u t old change (u == t) refl
 
 -- what the thread's row is then: of one without a row only what leaves it without one is asked
-pub row_now : (old new : List (ℕ × Row)) (u : ℕ) (change : Row → Row) → Written old new u change → (IsTrue (row_of old u).attached ⊎ (change no_row ≡ no_row)) → row_of new u ≡ change (row_of old u)
+pub row_now : (old new : List (ℕ × Row)) (u : ℕ) (change : Row → Row) → Written old new u change → (IsTrue (row_of old u).attached ⊎ (change no_row ≡ no_row))
+    → row_of new u ≡ change (row_of old u)
 row_now old new u change written known = ap row_or_none (written_here old new u change written) ∙ by (lookup (is_at (nat_cmp u)) old) known
   where
-    by : (found : Option Row) → (IsTrue (row_or_none found).attached ⊎ (change no_row ≡ no_row)) → row_or_none (option_map change found) ≡ change (row_or_none found)
+    by : (found : Option Row) → (IsTrue (row_or_none found).attached ⊎ (change no_row ≡ no_row))
+        → row_or_none (option_map change found) ≡ change (row_or_none found)
     by (Some row) known = refl
     by None (inr none) = sym none
     by None (inl on) = cc

@@ -1,13 +1,14 @@
-//! What no run of a case shows of the program: each way to stop, when a setup's file is closed, and files of the
-//! system.
+//! What no run of a case shows of the program: each way to stop and what is said behind it, when a setup's file is
+//! closed, when answers are handed on, and files of the system.
 
 use crate::devices::{Sink, SinkWriter, Taking};
 use crate::runs::{Difference, Ended, other_end};
+use crate::waiting::other_waiting;
 use jg_policy::SetupFault;
-use jg_program::{Files, ProgramStop, Status, run, say};
+use jg_program::{Files, ProgramEnd, ProgramStop, Said, Status, run, say, say_ending};
 use jg_script::RunFault;
 use jg_shell::Stop;
-use std::alloc::Global;
+use std::alloc::{AllocError, Global};
 use std::cell::Cell;
 use std::io;
 use std::io::{BufReader, ErrorKind, Read};
@@ -18,7 +19,9 @@ use std::thread::Threads;
 #[derive(Drop)]
 pub enum Own {
     Stops,
+    Endings,
     Closing,
+    Waiting,
     SystemFiles,
 }
 
@@ -27,7 +30,9 @@ impl Own {
     pub fn read(text: &str) -> Option<Own> {
         match text {
             "stops" => Some(Own::Stops),
+            "endings" => Some(Own::Endings),
             "closing" => Some(Own::Closing),
+            "waiting" => Some(Own::Waiting),
             "system files" => Some(Own::SystemFiles),
             _ => None,
         }
@@ -110,6 +115,53 @@ fn other_stop(alloc: Global) -> Difference {
         }
     }
     None
+}
+
+/// What is said behind the way to stop.
+#[derive(Clone, Copy)]
+enum Also {
+    Text,
+    Short,
+    NoMemory,
+    CutOff,
+}
+
+/// What may be said behind a way to stop, and its text.
+const ALSO: [(Also, &str); 4] = [
+    (Also::Text, "left\n"),
+    (Also::Short, "left\nsummary: no memory\n"),
+    (Also::NoMemory, "explain: no memory\n"),
+    (Also::CutOff, "line 9: cut off\nleft\n"),
+];
+
+fn said_of(alloc: Global, also: Also) -> Result<Said, AllocError> {
+    let text = String::from_str(alloc, "left\n")?;
+    Ok(match also {
+        Also::Text => Said::Text(text),
+        Also::Short => Said::Short(text),
+        Also::NoMemory => Said::NoMemory,
+        Also::CutOff => Said::CutOff { line: 9, text },
+    })
+}
+
+/// What isn't so of what is said behind a way to stop: its line comes first.
+fn other_ending(alloc: Global) -> io::Result<Difference> {
+    for (also, text) in ALSO {
+        let mut wanted = String::from_str(alloc, "leaks: no memory\n")?;
+        wanted.push_str(text)?;
+        let ending = ProgramEnd {
+            ended: Err(ProgramStop::Leaks),
+            said: said_of(alloc, also)?,
+        };
+        let mut err = Vec::new(alloc);
+        if say_ending(ending, &mut err) as u8 != Status::Exhausted as u8 {
+            return Ok(Some("what is said behind a way to stop changes the status"));
+        }
+        if err.as_slice() != wanted.as_bytes() {
+            return Ok(Some("what is said behind a way to stop has another text"));
+        }
+    }
+    Ok(None)
 }
 
 const CLOSED: &str = "version = 1\nillegal_native_access = \"deny\"\n";
@@ -221,7 +273,9 @@ pub fn other_own<T: Threads + Wait + Sync + Files>(
 ) -> io::Result<Difference> {
     match Own::read(text) {
         Some(Own::Stops) => Ok(other_stop(alloc)),
+        Some(Own::Endings) => other_ending(alloc),
         Some(Own::Closing) => other_closing(rt, alloc),
+        Some(Own::Waiting) => other_waiting(rt, alloc),
         Some(Own::SystemFiles) => Ok(other_file(rt)),
         None => Ok(Some("nothing of that name is tried")),
     }

@@ -14,6 +14,7 @@ mod parts;
 mod reading;
 mod runs;
 mod tables;
+mod waiting;
 
 use crate::cases::{Tally, try_file};
 use jg_program::Files;

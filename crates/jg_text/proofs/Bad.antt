@@ -44,9 +44,15 @@ pub no_numbers : (text : List ℕ) → StartsNoNumber text → ¬ AreNumbers (pi
 no_numbers text none = λ numbers. no_first text numbers.0 none numbers.1 numbers.2
 
 -- what stands between the brackets is at most 1,000 numbers between commas
-pub list_spelt : (text inner : List ℕ) → text ≡ 91 ∷ (inner ++ 93 ∷ []) → 0 < length inner → length (pieces inner) ≤ 1000 → AreNumbers (pieces inner) ↔ SpellsOperand Numbers text
+pub list_spelt : (text inner : List ℕ) → text ≡ 91 ∷ (inner ++ 93 ∷ []) → 0 < length inner → length (pieces inner) ≤ 1000
+    → AreNumbers (pieces inner) ↔ SpellsOperand Numbers text
 list_spelt text inner e some few = (
-  λ numbers. (numbers.0, (omega (arith, few, ap length numbers.2, length-map numbers.0 signed_decimal), numbers.1), spelt_items text inner numbers.0 e numbers.2),
+  λ numbers. (
+    numbers.0,
+    (omega (arith, few, ap length numbers.2, length-map numbers.0 signed_decimal), numbers.1),
+    spelt_items text inner numbers.0 e
+        numbers.2,
+  ),
   λ spelt. (spelt.0, spelt.1.1, items_pieces text inner spelt.0 e some spelt.1 spelt.2),
 )
 
@@ -57,8 +63,10 @@ list_too_long text inner e some long = λ spelt.
     absurd (omega (arith, long, few, ap length is, length-map spelt.0 signed_decimal))
 
 -- the first bad operand of the line's function
-pub bad_in_line : (line : List ℕ) (f g : Fun) (kinds : List KindTold) (rest : List (List ℕ)) (i : ℕ) → slice_get (fields line) 2 ≡ Some (name_of g) → slice_get (fields line) 2 ≡ Some (name_of f)
-    → drop 3 (fields line) ≡ rest → map kind_meant kinds ≡ operand_kinds g → (length rest ≡ length kinds → ¬ SpellOperands (map kind_meant kinds) rest → IsFirstBad (map kind_meant kinds) rest i)
+pub bad_in_line : (line : List ℕ) (f g : Fun) (kinds : List KindTold) (rest : List (List ℕ)) (i : ℕ) → slice_get (fields line) 2 ≡ Some (name_of g)
+    → slice_get (fields line) 2 ≡ Some (name_of f)
+    → drop 3 (fields line) ≡ rest → map kind_meant kinds ≡ operand_kinds g
+    → (length rest ≡ length kinds → ¬ SpellOperands (map kind_meant kinds) rest → IsFirstBad (map kind_meant kinds) rest i)
     → length (drop 3 (fields line)) ≡ length (operand_kinds f) → HasFault BadOperand line → IsFirstBad (operand_kinds f) (drop 3 (fields line)) i
 bad_in_line line f g kinds rest i is found rest_is kinds_are bad count fault =
     let whole : map kind_meant kinds ≡ operand_kinds f = kinds_are ∙ ap operand_kinds (one_function line f g is found) in

@@ -58,7 +58,8 @@ all_spaced (x ∷ line) = put_spaced x (x == 32) (fields line) refl (some_field 
 pub before_cut : (line front back : List ℕ) (n : ℕ) → line ≡ front ++ 32 ∷ back → spaces front + 1 ≡ n → length front + 1 ≡ length (before_field line n)
 before_cut line front back n is count =
     let many : length (fields front) ≡ n = length-slice_split (λ b. b == 32) front ∙ count in
-    let first : take n (fields line) ≡ fields front = ap (λ text. take n (fields text)) is ∙ ap (take n) (fields_cut front back) ∙ take_at (fields front) (fields back) n many in
+    let first : take n (fields line) ≡ fields front = ap (λ text. take n (fields text)) is ∙ ap (take n) (fields_cut front back)
+    ∙ take_at (fields front) (fields back) n many in
     omega (arith, ap length (ap spaced first ∙ all_spaced front), length-append front (codes " "))
 
 pub before_end : (line : List ℕ) (n : ℕ) → spaces line < n → length line + 1 ≡ length (before_field line n)
@@ -67,7 +68,8 @@ before_end line n few =
     omega (arith, ap length (ap spaced whole ∙ all_spaced line), length-append line (codes " "))
 
 -- a byte that is not printable, behind printable ones
-pub odd_here : (line : List ℕ) (i : ℕ) → i < length line → All (λ b. IsInRange 32 126 b) (take i line) → ¬ IsInRange 32 126 (get_or line i 0) → IsBeforeOdd line (take i line)
+pub odd_here : (line : List ℕ) (i : ℕ) → i < length line → All (λ b. IsInRange 32 126 b) (take i line) → ¬ IsInRange 32 126 (get_or line i 0)
+    → IsBeforeOdd line (take i line)
 odd_here line i within seen odd = (
   seen,
   get_or line i 0,
@@ -91,9 +93,11 @@ one_function line f g is found =
     let same : name_of g ≡ name_of f = cc in
     names_injective g f same
 
-pub count_index : (line : List ℕ) (f g : Fun) (count : ℕ) (kinds : List OperandKind) → slice_get (fields line) 2 ≡ Some (name_of g) → slice_get (fields line) 2 ≡ Some (name_of f) → count ≡ spaces line
+pub count_index : (line : List ℕ) (f g : Fun) (count : ℕ) (kinds : List OperandKind) → slice_get (fields line) 2 ≡ Some (name_of g)
+    → slice_get (fields line) 2 ≡ Some (name_of f) → count ≡ spaces line
     → map kind_meant kinds ≡ operand_kinds g → min (count + 1) (length kinds + 3) ≡ min (length (fields line)) (length (operand_kinds f) + 3)
 count_index line f g count kinds is found counted kinds_are =
     let there : count + 1 ≡ length (fields line) = omega (arith, counted, length-slice_split (λ b. b == 32) line) in
     let taken : length kinds ≡ length (operand_kinds g) = sym (length-map kinds kind_meant) ∙ ap length kinds_are in
-    ap (λ k. min k (length kinds + 3)) there ∙ ap (λ k. min (length (fields line)) (k + 3)) (taken ∙ ap (λ (k : Fun). length (operand_kinds k)) (one_function line f g is found))
+    ap (λ k. min k (length kinds + 3)) there
+    ∙ ap (λ k. min (length (fields line)) (k + 3)) (taken ∙ ap (λ (k : Fun). length (operand_kinds k)) (one_function line f g is found))

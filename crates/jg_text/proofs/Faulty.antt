@@ -20,7 +20,8 @@ pub record HasHead (line : List ℕ) (t : Tid) (e : Option EnvId) (f : Fun) (res
   pub env : FitsEnv e
   pub split : fields line ≡ tid_text t ∷ env_text e ∷ name_of f ∷ rest
 
-no_early : (line : List ℕ) (t : Tid) (e : Option EnvId) (f : Fun) (rest : List (List ℕ)) → HasHead line t e f rest → (g : ScriptFault) → rank g < 5 → ¬ HasFault g line
+no_early : (line : List ℕ) (t : Tid) (e : Option EnvId) (f : Fun) (rest : List (List ℕ)) → HasHead line t e f rest → (g : ScriptFault) → rank g < 5
+    → ¬ HasFault g line
 no_early line t e f rest h LineTooLong low = λ long. let short : length line ≤ 65536 = h.short in absurd (omega (arith, short, long))
 no_early line t e f rest h NotAscii low = λ bad. bad h.printable
 no_early line t e f rest h NoThread low = λ bad. bad t h.tid (ap (λ fs. slice_get fs 0) h.split)
@@ -31,7 +32,8 @@ no_early line t e f rest h BadOperand low = absurd (omega (arith, low))
 no_early line t e f rest h NoMemory low = absurd (omega (arith, low))
 no_early line t e f rest h TooManyThreads low = absurd (omega (arith, low))
 
-same_fun : (line : List ℕ) (t : Tid) (e : Option EnvId) (f g : Fun) (rest : List (List ℕ)) → HasHead line t e f rest → slice_get (fields line) 2 ≡ Some (name_of g) → f ≡ g
+same_fun : (line : List ℕ) (t : Tid) (e : Option EnvId) (f g : Fun) (rest : List (List ℕ)) → HasHead line t e f rest
+    → slice_get (fields line) 2 ≡ Some (name_of g) → f ≡ g
 same_fun line t e f g rest h found =
     let both : Some (name_of f) ≡ Some (name_of g) = sym (ap (λ fs. slice_get fs 2) h.split) ∙ found in
     let same : name_of f ≡ name_of g = cc in
@@ -40,13 +42,16 @@ same_fun line t e f g rest h found =
 operands_are : (line : List ℕ) (t : Tid) (e : Option EnvId) (f : Fun) (rest : List (List ℕ)) → HasHead line t e f rest → drop 3 (fields line) ≡ rest
 operands_are line t e f rest h = ap (drop 3) h.split
 
-pub wrong_count : (line : List ℕ) (t : Tid) (e : Option EnvId) (f : Fun) (rest : List (List ℕ)) → HasHead line t e f rest → length rest ≢ length (operand_kinds f) → IsFirstFault line WrongCount
+pub wrong_count : (line : List ℕ) (t : Tid) (e : Option EnvId) (f : Fun) (rest : List (List ℕ)) → HasHead line t e f rest
+    → length rest ≢ length (operand_kinds f) → IsFirstFault line WrongCount
 wrong_count line t e f rest h other = record {
-  fault = λ g found count. other (sym (ap length (operands_are line t e f rest h)) ∙ count ∙ ap (λ k. length (operand_kinds k)) (sym (same_fun line t e f g rest h found)));
+  fault = λ g found count. other
+      (sym (ap length (operands_are line t e f rest h)) ∙ count ∙ ap (λ k. length (operand_kinds k)) (sym (same_fun line t e f g rest h found)));
   first = no_early line t e f rest h;
 }
 
-no_count : (line : List ℕ) (t : Tid) (e : Option EnvId) (f : Fun) (rest : List (List ℕ)) → HasHead line t e f rest → length rest ≡ length (operand_kinds f) → (g : ScriptFault) → rank g < 6
+no_count : (line : List ℕ) (t : Tid) (e : Option EnvId) (f : Fun) (rest : List (List ℕ)) → HasHead line t e f rest → length rest ≡ length (operand_kinds f)
+    → (g : ScriptFault) → rank g < 6
     → ¬ HasFault g line
 no_count line t e f rest h count LineTooLong low = no_early line t e f rest h LineTooLong (omega arith)
 no_count line t e f rest h count NotAscii low = no_early line t e f rest h NotAscii (omega arith)
@@ -58,7 +63,8 @@ no_count line t e f rest h count BadOperand low = absurd (omega (arith, low))
 no_count line t e f rest h count NoMemory low = absurd (omega (arith, low))
 no_count line t e f rest h count TooManyThreads low = absurd (omega (arith, low))
 
-pub bad_operand : (line : List ℕ) (t : Tid) (e : Option EnvId) (f : Fun) (rest : List (List ℕ)) (g : ScriptFault) → HasHead line t e f rest → length rest ≡ length (operand_kinds f) → g ≡ BadOperand
+pub bad_operand : (line : List ℕ) (t : Tid) (e : Option EnvId) (f : Fun) (rest : List (List ℕ)) (g : ScriptFault) → HasHead line t e f rest
+    → length rest ≡ length (operand_kinds f) → g ≡ BadOperand
     → ¬ SpellOperands (operand_kinds f) rest → IsFirstFault line g
 bad_operand line t e f rest g h count is none =
     let whole : IsFirstFault line BadOperand = record {
@@ -69,7 +75,8 @@ bad_operand line t e f rest g h count is none =
     subst (λ (k : ScriptFault). IsFirstFault line k) (sym is) whole
 
 -- a spelt line has no fault
-pub no_fault : (line : List ℕ) (t : Tid) (e : Option EnvId) (f : Fun) (rest : List (List ℕ)) → HasHead line t e f rest → length rest ≡ length (operand_kinds f) → SpellOperands (operand_kinds f) rest
+pub no_fault : (line : List ℕ) (t : Tid) (e : Option EnvId) (f : Fun) (rest : List (List ℕ)) → HasHead line t e f rest → length rest ≡ length (operand_kinds f)
+    → SpellOperands (operand_kinds f) rest
     → (g : ScriptFault) → ¬ HasFault g line
 no_fault line t e f rest h count spelt LineTooLong = no_early line t e f rest h LineTooLong (omega arith)
 no_fault line t e f rest h count spelt NotAscii = no_early line t e f rest h NotAscii (omega arith)

@@ -53,17 +53,20 @@ same_cut (x ∷ xs) (u ∷ us) ys vs e n =
     (cc (head, more.0), more.1)
 
 -- the third field is the name of the call's function
-named_third : (t : Tid) (e : Option EnvId) (c : Call) (more : List ℕ) → FitsTid t → FitsEnv e → FitsCall c → slice_get (fields (spelling t e c ++ 32 ∷ more)) 2 ≡ Some (name_of (fun_of c))
+named_third : (t : Tid) (e : Option EnvId) (c : Call) (more : List ℕ) → FitsTid t → FitsEnv e → FitsCall c
+    → slice_get (fields (spelling t e c ++ 32 ∷ more)) 2 ≡ Some (name_of (fun_of c))
 named_third t e c more ht he hc = ap (λ fs. slice_get fs 2) (fields_longer t e c more ht he hc)
 
 -- so many spaces stand in a call
-spaces_of_call : (t : Tid) (e : Option EnvId) (c : Call) → FitsTid t → FitsEnv e → FitsCall c → spaces (spelling t e c) + 1 ≡ length (operand_kinds (fun_of c)) + 3
+spaces_of_call : (t : Tid) (e : Option EnvId) (c : Call) → FitsTid t → FitsEnv e → FitsCall c
+    → spaces (spelling t e c) + 1 ≡ length (operand_kinds (fun_of c)) + 3
 spaces_of_call t e c ht he hc =
     let fields_are = ap length (fields_spelling t e c ht he hc) in
     omega (arith, length-slice_split (λ b. b == 32) (spelling t e c), fields_are, same_count c)
 
 -- what stands before the space behind so many fields is the call, where the text begins with one
-pub front_is : (text front back : List ℕ) (t : Tid) (e : Option EnvId) (c : Call) (more : List ℕ) → FitsTid t → FitsEnv e → FitsCall c → text ≡ front ++ 32 ∷ back
+pub front_is : (text front back : List ℕ) (t : Tid) (e : Option EnvId) (c : Call) (more : List ℕ) → FitsTid t → FitsEnv e → FitsCall c
+    → text ≡ front ++ 32 ∷ back
     → spaces front + 1 ≡ length (operand_kinds (fun_of c)) + 3 → text ≡ spelling t e c ++ (codes " = " ++ more)
     → (front ≡ spelling t e c) × (back ≡ 61 ∷ 32 ∷ more)
 front_is text front back t e c more ht he hc cut count begins =
@@ -71,18 +74,22 @@ front_is text front back t e c more ht he hc cut count begins =
     same_cut front (spelling t e c) back (61 ∷ 32 ∷ more) (sym cut ∙ begins ∙ ap (λ rest. spelling t e c ++ rest) (equals more)) (omega (arith, count, call))
 
 -- such a text has a space there
-pub enough : (text : List ℕ) (t : Tid) (e : Option EnvId) (c : Call) (more : List ℕ) → FitsTid t → FitsEnv e → FitsCall c → spaces text < length (operand_kinds (fun_of c)) + 3
+pub enough : (text : List ℕ) (t : Tid) (e : Option EnvId) (c : Call) (more : List ℕ) → FitsTid t → FitsEnv e → FitsCall c
+    → spaces text < length (operand_kinds (fun_of c)) + 3
     → text ≡ spelling t e c ++ (codes " = " ++ more) → ⊥
 enough text t e c more ht he hc few begins =
     let call = spaces_of_call t e c ht he hc in
     let rest : spaces (codes " = " ++ more) ≡ 1 + spaces (61 ∷ 32 ∷ more) = ap spaces (equals more) ∙ one_more (61 ∷ 32 ∷ more) in
-    let whole : spaces text ≡ spaces (spelling t e c) + spaces (codes " = " ++ more) = ap spaces begins ∙ sum_by-append (λ b. cond (b == 32) 1 0) (spelling t e c) (codes " = " ++ more) in
+    let whole : spaces text ≡ spaces (spelling t e c) + spaces (codes " = " ++ more) =
+    ap spaces begins ∙ sum_by-append (λ b. cond (b == 32) 1 0) (spelling t e c) (codes " = " ++ more) in
     absurd (omega (arith, few, call, whole, rest))
 
 -- the text names the call's function in its third field
-pub named_function : (text : List ℕ) (t : Tid) (e : Option EnvId) (c : Call) (more : List ℕ) → FitsTid t → FitsEnv e → FitsCall c → text ≡ spelling t e c ++ (codes " = " ++ more)
+pub named_function : (text : List ℕ) (t : Tid) (e : Option EnvId) (c : Call) (more : List ℕ) → FitsTid t → FitsEnv e → FitsCall c
+    → text ≡ spelling t e c ++ (codes " = " ++ more)
     → slice_get (fields text) 2 ≡ Some (name_of (fun_of c))
-named_function text t e c more ht he hc begins = ap (λ k. slice_get (fields k) 2) (begins ∙ ap (λ rest. spelling t e c ++ rest) (equals more)) ∙ named_third t e c (61 ∷ 32 ∷ more) ht he hc
+named_function text t e c more ht he hc begins = ap (λ k. slice_get (fields k) 2) (begins ∙ ap (λ rest. spelling t e c ++ rest) (equals more))
+    ∙ named_third t e c (61 ∷ 32 ∷ more) ht he hc
 
 -- the function that is read from the third field is the one that it names
 pub third_names : (text behind later a b name : List ℕ) (rest : List (List ℕ)) (f g : Fun) → fields text ≡ a ∷ fields behind → fields behind ≡ b ∷ fields later
@@ -95,7 +102,8 @@ third_names text behind later a b name rest f g first second third is found =
 
 -- what stands before ` = ` spells no call, so the text doesn't begin with one
 pub begins_with_none : (text : List ℕ) (front : Option (List ℕ))
-    → ((t : Tid) (e : Option EnvId) (c : Call) (more : List ℕ) → FitsTid t → FitsEnv e → FitsCall c → text ≡ spelling t e c ++ (codes " = " ++ more) → front ≡ Some (spelling t e c))
+    → ((t : Tid) (e : Option EnvId) (c : Call) (more : List ℕ) → FitsTid t → FitsEnv e → FitsCall c → text ≡ spelling t e c ++ (codes " = " ++ more)
+    → front ≡ Some (spelling t e c))
     → ((line : List ℕ) → front ≡ Some line → (t : Tid) (e : Option EnvId) (c : Call) → ¬ Spells line t e c) → ¬ BeginsCall text
 begins_with_none text front found none = λ begins.
     let (t, e, c, is) = begins in

@@ -160,7 +160,8 @@ word_same (of_field f) (of_field g) e h k t = ap of_field (field_ids_same f g h 
 word_same (of_buffer b) (of_buffer c) e h k t = ap of_buffer (buf_ids_same b c h k t)
 word_same _ _ e h k t = absurd (cc)
 
-words_same : (us vs : List Word) → map kind_of us ≡ map kind_of vs → AllByRecursion FitsWord us → AllByRecursion FitsWord vs → map text_of us ≡ map text_of vs → us ≡ vs
+words_same : (us vs : List Word) → map kind_of us ≡ map kind_of vs → AllByRecursion FitsWord us → AllByRecursion FitsWord vs → map text_of us ≡ map text_of vs
+    → us ≡ vs
 words_same [] [] e h k t = refl
 words_same [] (b ∷ vs) e h k t = absurd (cc)
 words_same (a ∷ us) [] e h k t = absurd (cc)
@@ -196,7 +197,9 @@ seen_word (of_number (pos n)) h = seen_number n (omega (arith, h))
 seen_word (of_number (negsuc m)) h = seen_cons 45 (decimal (suc m)) (omega arith) (seen_number (suc m) (omega (arith, h)))
 seen_word (of_long_number i) h = seen_signed i h
 seen_word (of_items xs) h = seen_cons 91 (join_with_byte 44 (map signed_decimal xs)
-    ++ 93 ∷ []) (omega arith) (seen_append (join_with_byte 44 (map signed_decimal xs)) (93 ∷ []) (seen_joined xs h.1) (seen_cons 93 [] (omega arith) (All-nil (λ b. IsInRange 33 126 b))))
+    ++ 93 ∷ []) (omega arith)
+    (seen_append (join_with_byte 44 (map signed_decimal xs)) (93 ∷ []) (seen_joined xs h.1)
+    (seen_cons 93 [] (omega arith) (All-nil (λ b. IsInRange 33 126 b))))
 seen_word (of_name name) h = λ k d within. let v = h.2 k d within in omega (arith, v)
 seen_word (of_field f) h = seen_cons 70 (dotted_text f.class f.field) (omega arith) (seen_dotted f.class f.field (omega (arith, h.0)) (omega (arith, h.1)))
 seen_word (of_buffer b) h = seen_cons 66 (dotted_text b.maker.0 b.n) (omega arith) (seen_dotted b.maker.0 b.n (omega (arith, h.0)) h.1)
@@ -226,7 +229,8 @@ seen_fields t e c ht he hc = (seen_tid t ht, (seen_env e he, (seen_name (fun_of 
 -- a line that is spelt splits into its fields
 pub fields_spelling : (t : Tid) (e : Option EnvId) (c : Call) → FitsTid t → FitsEnv e → FitsCall c → fields (spelling t e c) ≡ line_fields t e c
 unfolding spelling
-fields_spelling t e c ht he hc = fields_join (tid_text t) (env_text e ∷ name_of (fun_of c) ∷ operand_texts c) (clean_all (line_fields t e c) (seen_fields t e c ht he hc))
+fields_spelling t e c ht he hc =
+    fields_join (tid_text t) (env_text e ∷ name_of (fun_of c) ∷ operand_texts c) (clean_all (line_fields t e c) (seen_fields t e c ht he hc))
 
 pub tids_same : (t u : Tid) → FitsTid t → FitsTid u → tid_text t ≡ tid_text u → t ≡ u
 tids_same t u h k e =
@@ -261,7 +265,8 @@ spelt_once line t u e f c d h k =
 
 -- bounds
 pub dotted_short : (a b : ℕ) → a < 2 ^ 64 → b < 2 ^ 64 → length (dotted_text a b) ≤ 41
-dotted_short a b ha hb = simp length-append (omega (arith, length-decimal-le 20 a (omega arith) (omega arith) ha, length-decimal-le 20 b (omega arith) (omega arith) hb))
+dotted_short a b ha hb = simp length-append
+    (omega (arith, length-decimal-le 20 a (omega arith) (omega arith) ha, length-decimal-le 20 b (omega arith) (omega arith) hb))
 
 pub signed_short : (z : ℤ) → FitsSigned w64 z → length (signed_decimal z) ≤ 20
 signed_short z h = let small = mag_fits z h in length_signed_le 19 z (omega arith) small
@@ -288,7 +293,8 @@ words_short [] h = omega arith
 words_short (u ∷ us) h = simp length-append (omega (arith, word_short u h.0, words_short us h.1))
 
 name_short : (f : Fun) → length (name_of f) < 40
-name_short f = ltb-true (length (name_of f)) 40 (each_passes (λ g. pointwise nat_eq (name_of g) (name_of f)) (λ g. nat_lt (length (name_of g)) 40) all f (named-name_of f) refl)
+name_short f = ltb-true (length (name_of f)) 40
+    (each_passes (λ g. pointwise nat_eq (name_of g) (name_of f)) (λ g. nat_lt (length (name_of g)) 40) all f (named-name_of f) refl)
 
 env_short : (e : Option EnvId) → FitsEnv e → length (env_text e) ≤ 42
 env_short None h = omega arith
@@ -359,7 +365,8 @@ spelt_faultless line t e c f h = λ bad.
     let kinds = same_kinds c in
     let count : length (operand_texts c) ≡ length (operand_kinds (fun_of c)) = same_count c in
     let spelt = subst (λ (ks : List OperandKind). SpellOperands ks (operand_texts c)) kinds (words_spelt (operands c) h.call) in
-    no_fault (spelling t e c) t e (fun_of c) (operand_texts c) (spelt_head t e c h.tid h.env h.call) count spelt f (subst (λ (l : List ℕ). HasFault f l) h.text bad)
+    no_fault (spelling t e c) t e (fun_of c) (operand_texts c) (spelt_head t e c h.tid h.env h.call) count spelt f
+    (subst (λ (l : List ℕ). HasFault f l) h.text bad)
 
 -- a line that goes on after its call
 fields_more : (part : List ℕ) (parts : List (List ℕ)) (more : List ℕ) → AllByRecursion (IsClean 32) (part ∷ parts)
@@ -370,9 +377,11 @@ fields_more part (next ∷ parts) more h =
     ∙ split_first 32 part (join_with_byte 32 (next ∷ parts) ++ 32 ∷ more) h.0
     ∙ ap (λ ps. part ∷ ps) (fields_more next parts more h.1)
 
-pub fields_longer : (t : Tid) (e : Option EnvId) (c : Call) (more : List ℕ) → FitsTid t → FitsEnv e → FitsCall c → fields (spelling t e c ++ 32 ∷ more) ≡ line_fields t e c ++ fields more
+pub fields_longer : (t : Tid) (e : Option EnvId) (c : Call) (more : List ℕ) → FitsTid t → FitsEnv e → FitsCall c
+    → fields (spelling t e c ++ 32 ∷ more) ≡ line_fields t e c ++ fields more
 unfolding spelling
-fields_longer t e c more ht he hc = fields_more (tid_text t) (env_text e ∷ name_of (fun_of c) ∷ operand_texts c) more (clean_all (line_fields t e c) (seen_fields t e c ht he hc))
+fields_longer t e c more ht he hc =
+    fields_more (tid_text t) (env_text e ∷ name_of (fun_of c) ∷ operand_texts c) more (clean_all (line_fields t e c) (seen_fields t e c ht he hc))
 
 same_front : (xs us ys vs : List (List ℕ)) → length xs ≡ length us → xs ++ ys ≡ us ++ vs → xs ≡ us
 same_front [] [] ys vs n e = refl

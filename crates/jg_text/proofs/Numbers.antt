@@ -70,7 +70,8 @@ minus_is (pos n) text fits e = absurd (no_minus n (omega (arith, fits)) text e)
 minus_is (negsuc m) text fits e = (suc m, cc, omega arith, omega (arith, fits))
 
 -- what has no minus in front
-pub plain_is : (z : ℤ) (text : List ℕ) → FitsSigned w64 z → text ≡ signed_decimal z → ¬ ((0 < length text) × (get_or text 0 0 ≡ 45)) → (n : ℕ) × (text ≡ decimal n) × (n < 2 ^ 63)
+pub plain_is : (z : ℤ) (text : List ℕ) → FitsSigned w64 z → text ≡ signed_decimal z → ¬ ((0 < length text) × (get_or text 0 0 ≡ 45))
+    → (n : ℕ) × (text ≡ decimal n) × (n < 2 ^ 63)
 plain_is (pos n) text fits e h = (n, e, omega (arith, fits))
 plain_is (negsuc m) text fits e h = absurd (h (omega (arith, ap length e), ap (λ xs. get_or xs 0 0) e))
 

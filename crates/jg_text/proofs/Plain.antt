@@ -104,9 +104,12 @@ value_plain (value.Truth false) h = known 21002 (value_text (value.Truth false))
 value_plain value.Null h = known 21002 (value_text value.Null) refl (omega arith)
 value_plain (value.Reference r) h = record { printable = wide (ref_text r) (seen_word (of_ref r) h); short = ref_short r h }
 value_plain (value.Buffer b) h = more 42 21002 (value_text (value.Buffer b)) (lettered 66 b.maker.0 b.n (omega arith) (omega (arith, h.0)) h.1) (omega arith)
-value_plain (value.Field f) h = more 42 21002 (value_text (value.Field f)) (lettered 70 f.class f.field (omega arith) (omega (arith, h.0)) (omega (arith, h.1))) (omega arith)
-value_plain (value.Environment e) h = more 42 21002 (value_text (value.Environment e)) (lettered 69 e.tid.0 e.session (omega arith) (omega (arith, h.0)) h.1) (omega arith)
-value_plain (value.List xs) h = record { printable = wide (items_text xs) (seen_word (of_items xs) h); short = simp length-append (omega (arith, joined_short xs h.1, h.0)) }
+value_plain (value.Field f) h =
+    more 42 21002 (value_text (value.Field f)) (lettered 70 f.class f.field (omega arith) (omega (arith, h.0)) (omega (arith, h.1))) (omega arith)
+value_plain (value.Environment e) h =
+    more 42 21002 (value_text (value.Environment e)) (lettered 69 e.tid.0 e.session (omega arith) (omega (arith, h.0)) h.1) (omega arith)
+value_plain (value.List xs) h =
+    record { printable = wide (items_text xs) (seen_word (of_items xs) h); short = simp length-append (omega (arith, joined_short xs h.1, h.0)) }
 value_plain value.Busy h = known 21002 (value_text value.Busy) refl (omega arith)
 value_plain value.Detached h = known 21002 (value_text value.Detached) refl (omega arith)
 value_plain (value.Throw t) h = more 60 21002 (value_text (value.Throw t)) (thrown_plain t) (omega arith)
@@ -133,7 +136,8 @@ rule_plain NotLinked = known 20 (name_of NotLinked) refl (omega arith)
 outcome_plain : (o : Outcome) → FitsOutcome o → IsPlainText 21040 (outcome_text o)
 outcome_plain (Passed r) h =
     let noticed = both 21002 7 (value_text r.value) (notice_text r.noticed) (value_plain r.value h) (notice_plain r.noticed) in
-    more ((21002 + 7) + 5) 21040 (outcome_text (Passed r)) (both (21002 + 7) 5 (value_text r.value ++ notice_text r.noticed) (warning_text r.warned) noticed (warning_plain r.warned)) (omega arith)
+    more ((21002 + 7) + 5) 21040 (outcome_text (Passed r))
+    (both (21002 + 7) 5 (value_text r.value ++ notice_text r.noticed) (warning_text r.warned) noticed (warning_plain r.warned)) (omega arith)
 outcome_plain (Denied rule) h =
     let n = number_of rule in
     let small = (rule_number rule).1 in
@@ -143,17 +147,21 @@ outcome_plain (Denied rule) h =
     } in
     let name = both 1 20 (32 ∷ []) (name_of rule) (known 1 (32 ∷ []) refl (omega arith)) (rule_plain rule) in
     more ((5 + 2) + (1 + 20)) 21040 (outcome_text (Denied rule))
-    (both (5 + 2) (1 + 20) (codes "deny " ++ decimal n) (32 ∷ name_of rule) (both 5 2 (codes "deny ") (decimal n) (known 5 (codes "deny ") refl (omega arith)) few) name) (omega arith)
+    (both (5 + 2) (1 + 20) (codes "deny " ++ decimal n) (32 ∷ name_of rule)
+    (both 5 2 (codes "deny ") (decimal n) (known 5 (codes "deny ") refl (omega arith)) few) name) (omega arith)
 
 -- the line of an entry, without its line feed
-pub line_plain : (x : Entry) → FitsTid x.tid → FitsEnv x.env → FitsCall x.call → FitsOutcome x.outcome → (line : List ℕ) × (entry_text x ≡ line ++ 10 ∷ []) × IsPlainText 65536 line
+pub line_plain : (x : Entry) → FitsTid x.tid → FitsEnv x.env → FitsCall x.call → FitsOutcome x.outcome
+    → (line : List ℕ) × (entry_text x ≡ line ++ 10 ∷ []) × IsPlainText 65536 line
 unfolding entry_text
 line_plain x ht he hc ho =
-    let call : IsPlainText 22000 (call_line x) = record { printable = printable_line x.tid x.env x.call ht he hc; short = short_call x.tid x.env x.call ht he hc } in
+    let call : IsPlainText 22000 (call_line x) =
+    record { printable = printable_line x.tid x.env x.call ht he hc; short = short_call x.tid x.env x.call ht he hc } in
     let begun = both 22000 3 (call_line x) (codes " = ") call (known 3 (codes " = ") refl (omega arith)) in (
       (call_line x ++ codes " = ") ++ outcome_text x.outcome,
       refl,
-      more ((22000 + 3) + 21040) 65536 _ (both (22000 + 3) 21040 (call_line x ++ codes " = ") (outcome_text x.outcome) begun (outcome_plain x.outcome ho)) (omega arith),
+      more ((22000 + 3) + 21040) 65536 _ (both (22000 + 3) 21040 (call_line x ++ codes " = ") (outcome_text x.outcome) begun (outcome_plain x.outcome ho))
+          (omega arith),
     )
 
 ascii_at : (bs : List ℕ) (i : ℕ) → All (λ b. IsInRange 32 126 b) bs → (i < length bs) ⊎ (length bs ≤ i) → slice_index bs i < 128

@@ -17,12 +17,15 @@ use Rattle.std.proofs.Common.{◌+◌, ◌<◌, length, get_or, take, All, ◌�
 use Rattle.std.specs.Int.{IsInRange}
 use Rattle.std.proofs.lemmas.List.Elements.{All-more, All-take, All-get_or}
 
-pub cut_rest : (all : List (List ℕ)) (x : List ℕ) (o : Option (Bor (List ℕ))) → MatchOption o (all ≡ x ∷ []) (λ r. all ≡ x ∷ fields r.now) → all ≡ x ∷ rest_fields (option_copied o)
+pub cut_rest : (all : List (List ℕ)) (x : List ℕ) (o : Option (Bor (List ℕ))) → MatchOption o (all ≡ x ∷ []) (λ r. all ≡ x ∷ fields r.now)
+    → all ≡ x ∷ rest_fields (option_copied o)
 cut_rest all x None h = h
 cut_rest all x (Some r) h = h
 
-pub spelt_by_parts : (line : List ℕ) (t : Tid) (e : Option EnvId) (f : Fun) (c : Call) (thread env name behind_thread behind_env : List ℕ) (rest : Option (List ℕ))
-    → fields line ≡ thread ∷ fields behind_thread → fields behind_thread ≡ env ∷ fields behind_env → fields behind_env ≡ name ∷ rest_fields rest → thread ≡ tid_text t → env ≡ env_text e
+pub spelt_by_parts : (line : List ℕ) (t : Tid) (e : Option EnvId) (f : Fun) (c : Call) (thread env name behind_thread behind_env : List ℕ)
+    (rest : Option (List ℕ))
+    → fields line ≡ thread ∷ fields behind_thread → fields behind_thread ≡ env ∷ fields behind_env → fields behind_env ≡ name ∷ rest_fields rest
+    → thread ≡ tid_text t → env ≡ env_text e
     → name ≡ name_of f → fun_of c ≡ f → operand_texts c ≡ rest_fields rest → line ≡ spelling t e c
 unfolding spelling
 spelt_by_parts line t e f c thread env name behind_thread behind_env rest first second third is_t is_e is_f fun texts =
@@ -34,7 +37,8 @@ abbrev Seen : ℕ → Type 0
 Seen b = IsInRange 32 126 b
 
 -- one byte more is printable, or isn't
-pub seen_more : (xs : List ℕ) (i : ℕ) (p q : ℕ) → i < length xs → q ≡ p → Seen (get_or xs i 0) → ((p ≡ 0) ↔ All Seen (take i xs)) → (q ≡ 0) ↔ All Seen (take (i + 1) xs)
+pub seen_more : (xs : List ℕ) (i : ℕ) (p q : ℕ) → i < length xs → q ≡ p → Seen (get_or xs i 0) → ((p ≡ 0) ↔ All Seen (take i xs))
+    → (q ≡ 0) ↔ All Seen (take (i + 1) xs)
 seen_more xs i p q within same seen h = (
   λ t. All-more Seen xs i 0 within (h.0 (sym same ∙ t)) seen,
   λ whole. same ∙ h.1 (subst (All Seen) (take-take i (i + 1) xs (omega arith)) (All-take Seen i (take (i + 1) xs) whole)),
@@ -43,5 +47,6 @@ seen_more xs i p q within same seen h = (
 pub seen_over : (xs : List ℕ) (i : ℕ) (q : ℕ) → i < length xs → q ≡ 1 → ¬ Seen (get_or xs i 0) → (q ≡ 0) ↔ All Seen (take (i + 1) xs)
 seen_over xs i q within is odd = (
   λ t. absurd (omega (arith, is, t)),
-  λ whole. absurd (odd (subst Seen (get_or-take (i + 1) xs i 0 (omega arith)) (All-get_or Seen (take (i + 1) xs) i 0 (omega (arith, length-take-le (i + 1) xs (omega (arith, within)))) whole))),
+  λ whole. absurd (odd (subst Seen (get_or-take (i + 1) xs i 0 (omega arith))
+      (All-get_or Seen (take (i + 1) xs) i 0 (omega (arith, length-take-le (i + 1) xs (omega (arith, within)))) whole))),
 )

@@ -19,13 +19,18 @@ pub one_more : (bs : List ℕ) (i byte : ℕ) → i < length bs → byte ≡ get
     → AllDigits 10 (take (i + 1) bs) × (digits_value 10 (take (i + 1) bs) ≡ digits_value 10 (take i bs) * 10 + (byte - 48))
 one_more bs i byte within is digit h =
     let there : IsInRange 48 57 (get_or bs i 0) = subst (λ b. IsInRange 48 57 b) is digit in
-    let worth = digit_value_digit (get_or bs i 0) there in
-    (digits_more 10 bs i within h (omega (arith, worth, there)), digits_value_more 10 bs i within ∙ ap (λ d. digits_value 10 (take i bs) * 10 + d) (omega (arith, worth, is)))
+    let worth = digit_value_digit (get_or bs i 0) there in (
+      digits_more 10 bs i within h (omega (arith, worth, there)),
+      digits_value_more 10 bs i within
+          ∙ ap (λ d. digits_value 10 (take i bs) * 10 + d) (omega (arith, worth, is)),
+    )
 
 -- digits in front, none of them a leading zero, are a decimal's
-pub spelt_in_front : (bs front rest : List ℕ) (n i : ℕ) → i ≤ length bs → i ≤ 18 → front ≡ take i bs → rest ≡ drop i bs → IsPlain front → 0 < length front → AllDigits 10 (take i bs)
+pub spelt_in_front : (bs front rest : List ℕ) (n i : ℕ) → i ≤ length bs → i ≤ 18 → front ≡ take i bs → rest ≡ drop i bs → IsPlain front → 0 < length front
+    → AllDigits 10 (take i bs)
     → n ≡ digits_value 10 (take i bs) → bs ≡ decimal n ++ rest
 spelt_in_front bs front rest n i within short is_front is_rest plain some h is =
     let small = small_front bs i within short h in
-    let spelt = decimal-digits_value own (take i bs) h (omega (arith, ap length is_front, some)) (subst IsPlain is_front plain).no_zero (omega (arith, small)) in
+    let spelt = decimal-digits_value own (take i bs) h (omega (arith, ap length is_front, some)) (subst IsPlain is_front plain).no_zero (omega (arith, small))
+    in
     sym (take-append-drop i bs) ∙ cc (is_rest, ap decimal is, spelt)

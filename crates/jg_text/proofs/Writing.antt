@@ -24,7 +24,8 @@ pub join_operands : (x : List ℕ) (xs : List (List ℕ)) → join_with_byte 32 
 join_operands x [] = sym (append-nil x)
 join_operands x (y ∷ ys) = ap (λ z. x ++ (32 ∷ z)) (join_operands y ys)
 
-line_by_parts : (t : Tid) (e : Option EnvId) (c : Call) → ((((tid_text t ++ 32 ∷ []) ++ env_text e) ++ 32 ∷ []) ++ name_of (fun_of c)) ++ after_spaces (operand_texts c) ≡ spelling t e c
+line_by_parts : (t : Tid) (e : Option EnvId) (c : Call)
+    → ((((tid_text t ++ 32 ∷ []) ++ env_text e) ++ 32 ∷ []) ++ name_of (fun_of c)) ++ after_spaces (operand_texts c) ≡ spelling t e c
 unfolding spelling
 line_by_parts t e c = rw (join_operands (name_of (fun_of c)) (operand_texts c)) (simp append_assoc)
 
@@ -54,9 +55,11 @@ unfolding entry_text
 completed x line is = ap (λ (front : List ℕ). front ++ answer_text x.outcome) is ∙ behind (call_line x) (outcome_text x.outcome)
 
 -- a letter and two numbers, written from the last byte to the first
-pub lettered : (letter a b : ℕ) (none second stop first whole : List ℕ) → none ≡ [] → second ≡ decimal b ++ none → stop ≡ 46 ∷ second → first ≡ decimal a ++ stop → whole ≡ letter ∷ first
+pub lettered : (letter a b : ℕ) (none second stop first whole : List ℕ) → none ≡ [] → second ≡ decimal b ++ none → stop ≡ 46 ∷ second
+    → first ≡ decimal a ++ stop → whole ≡ letter ∷ first
     → whole ≡ letter ∷ dotted_text a b
-lettered letter a b none second stop first whole e0 e1 e2 e3 e4 = rw (e4, e3, e2, e1, e0) (ap (λ (t : List ℕ). letter ∷ (decimal a ++ 46 ∷ t)) (append-nil (decimal b)))
+lettered letter a b none second stop first whole e0 e1 e2 e3 e4 =
+    rw (e4, e3, e2, e1, e0) (ap (λ (t : List ℕ). letter ∷ (decimal a ++ 46 ∷ t)) (append-nil (decimal b)))
 
 pub ascii_lettered : (letter a b : ℕ) → letter < 128 → a < 2 ^ 64 → b < 2 ^ 64 → IsAscii (letter ∷ dotted_text a b)
 ascii_lettered letter a b low ha hb =

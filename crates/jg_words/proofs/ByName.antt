@@ -22,7 +22,8 @@ pub names_injective : (f g : Fun) → name_of f ≡ name_of g → f ≡ g
 names_injective f g e = let both : Some f ≡ Some g = sym (named-name_of f) ∙ ap named e ∙ named-name_of g in cc
 
 named_some : (text : List ℕ) (f : Fun) → named text ≡ Some f → text ≡ name_of f
-named_some text f e = let passes : pointwise nat_eq (name_of f) text ≡ true = find_passes (λ g. pointwise nat_eq (name_of g) text) all f e in sym (same_text (name_of f) text (sym passes))
+named_some text f e = let passes : pointwise nat_eq (name_of f) text ≡ true = find_passes (λ g. pointwise nat_eq (name_of g) text) all f e
+    in sym (same_text (name_of f) text (sym passes))
 
 named_none : (text : List ℕ) → named text ≡ None → (f : Fun) → text ≢ name_of f
 named_none text e f same = let clash : Some f ≡ None = sym (named-name_of f) ∙ ap named (sym same) ∙ e in absurd (cc)
@@ -48,10 +49,12 @@ stands_in row f e =
     subst (λ (h : Fun). Contains row h) same (k, within, here)
 
 -- a table that passes the test for each function is one by key
-pub by_key : (rows : List (Bor (List Fun))) → ((d : Bor (List Fun)) → list_all (λ f. has (slice_index_or rows (name_key (name_of f)) d).now f) all ≡ true) → IsByKey rows
+pub by_key : (rows : List (Bor (List Fun))) → ((d : Bor (List Fun)) → list_all (λ f. has (slice_index_or rows (name_key (name_of f)) d).now f) all ≡ true)
+    → IsByKey rows
 by_key rows h = record {
   stands = λ f d. stands_in (slice_index_or rows (name_key (name_of f)) d).now f
-      (each_passes (λ g. pointwise nat_eq (name_of g) (name_of f)) (λ g. has (slice_index_or rows (name_key (name_of g)) d).now g) all f (named-name_of f) (h d));
+      (each_passes (λ g. pointwise nat_eq (name_of g) (name_of f)) (λ g. has (slice_index_or rows (name_key (name_of g)) d).now g) all f (named-name_of f)
+      (h d));
 }
 
 -- what is found by the bytes is what the name means

@@ -4,6 +4,6 @@ pub mod Classes
 pub mod Entry
 pub mod Fun
 pub mod Name
-pub mod Passing
+pub mod MayCall
 pub mod Rule
 pub mod Value

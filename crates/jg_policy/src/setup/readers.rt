@@ -4,7 +4,7 @@ ghost use Rattle.std.specs.Prelude.{◌≡◌, ◌<◌, ◌≤◌, ◌&&◌, len
 ghost use Rattle.std.specs.Option.{is_some, option_map};
 ghost use Rattle.std.specs.Str.{bytes_eq};
 ghost use Rattle.jg_policy.specs.Stated.{class_count};
-ghost use Rattle.jg_policy.specs.Access.{access_of};
+ghost use Rattle.jg_policy.specs.NativeAccess.{access_of};
 ghost use Rattle.jg_policy.specs.Classes.{class_named, is_throwable, class_name_of, module_name_of, module_of, module_names, member_named, field_named, native_at, native_named, member_type, field_type, class_at, fields_in};
 ghost use Rattle.jg_policy.specs.Kept.{member_view};
 

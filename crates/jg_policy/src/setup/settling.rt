@@ -5,7 +5,7 @@ ghost use Rattle.std.specs.Map.{update};
 ghost use Rattle.std.specs.HashMap.{get_by};
 ghost use Rattle.std.specs.HashSet.{contains_by};
 ghost use Rattle.jg_policy.specs.declared.access.Access.TheVariants.{Allowed};
-ghost use Rattle.jg_policy.specs.Access.{allows, is_granted, access_by};
+ghost use Rattle.jg_policy.specs.NativeAccess.{allows, is_granted, access_by};
 ghost use Rattle.jg_policy.specs.Kept.{grant_view};
 ghost use Rattle.jg_policy.specs.Settling.{setup_view, settled_view, settled_access, AreSettled};
 

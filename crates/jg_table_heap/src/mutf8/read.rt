@@ -115,6 +115,13 @@ pub fn is_mutf8(items: &[i64]) -> bool
     spells(items)
 }
 
+/// Whether the bytes spell some units.
+pub fn are_mutf8(bytes: &[u8]) -> bool
+    ensures { IsTrue result ↔ ((units : List ℕ) × IsSpelt units bytes.now) }
+{
+    spells(bytes)
+}
+
 /// The units that the bytes spell, and `None` where they spell none. Fails only for want of
 /// memory.
 pub fn from_mutf8<A: Allocator>(alloc: A, bytes: &[u8]) -> Result<Option<Vec<u16, A>>, AllocError>

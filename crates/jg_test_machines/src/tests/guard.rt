@@ -6,7 +6,6 @@ mod growths;
 mod readings;
 mod refused;
 mod rows;
-mod sessions;
 
 use jg_example_guard::count_done;
 use jg_guard::Guard;

@@ -11,7 +11,8 @@ returns-in-Some g c =
     let place = c.args.index / 1024 in
     let blocks = map (λ v. v.items) c.self.inside.blocks.items in
     let at : slice_get c.self.inside.blocks.items place ≡ Some c.in-Some.block.now =
-    sym (looked_up c.deref.result.now place (Some c.in-Some.block) c.in-Some.ensures.lookup.0 c.in-Some.ensures.lookup.1 ∙ ap (λ l. slice_get l place) c.deref.ensures.value) in
+    sym (looked_up c.deref.result.now place (Some c.in-Some.block) c.in-Some.ensures.lookup.0 c.in-Some.ensures.lookup.1
+    ∙ ap (λ l. slice_get l place) c.deref.ensures.value) in
     let there : slice_get blocks place ≡ Some c.in-Some.block.now.items =
     slice_get-map (λ v. v.items) c.self.inside.blocks.items place ∙ ap (option_map (λ v. v.items)) at in
     let here : option_copied c.get-in-Some.result ≡ slice_get c.in-Some.block.now.items (c.args.index % 1024) =
@@ -25,4 +26,5 @@ returns-in-None g c =
     let blocks = map (λ v. v.items) c.self.inside.blocks.items in
     let many : length blocks ≡ length c.self.inside.blocks.items = length-map c.self.inside.blocks.items (λ v. v.items) in
     let past : length c.self.inside.blocks.items ≤ c.args.index / 1024 = search rules in
-    sym (past_all blocks c.self.inside.len c.args.index c.self.invariant.filled (omega (arith, many, past))) ∙ ap (λ k. slice_get k.items c.args.index) c.self.view_is
+    sym (past_all blocks c.self.inside.len c.args.index c.self.invariant.filled (omega (arith, many, past)))
+    ∙ ap (λ k. slice_get k.items c.args.index) c.self.view_is

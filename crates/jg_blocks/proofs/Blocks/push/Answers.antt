@@ -15,7 +15,8 @@ unwrap-requires g c =
     let there : slice_get blocks place ≡ Some c.in-Some.block.now.items =
     slice_get-map (λ v. v.items) c.self.inside.blocks.items place ∙ ap (option_map (λ v. v.items)) at in
     let short : length c.in-Some.block.now.items < 1024 = is_short blocks c.self.inside.len c.in-Some.block.now.items c.self.invariant.filled there in
-    let wide : 1024 ≤ vec_capacity c.in-Some.block.now = all_get (λ b. 1024 ≤ vec_capacity b) c.self.inside.blocks.items place c.in-Some.block.now c.self.invariant.placed at in
+    let wide : 1024 ≤ vec_capacity c.in-Some.block.now =
+    all_get (λ b. 1024 ≤ vec_capacity b) c.self.inside.blocks.items place c.in-Some.block.now c.self.invariant.placed at in
     search rules
 
 pub returns-clause-items : goal.returns-clause-items
@@ -27,7 +28,8 @@ returns-clause-items g c =
     let there : slice_get blocks place ≡ Some c.in-Some.block.now.items =
     slice_get-map (λ v. v.items) c.self.inside.blocks.items place ∙ ap (option_map (λ v. v.items)) at in
     let added : c.push.new.self.items ≡ c.in-Some.block.now.items ++ c.args.item ∷ [] = search rules in
-    rw (map-set, added) (items_more blocks c.self.inside.len c.in-Some.block.now.items c.args.item c.self.invariant.filled there ∙ ap (λ k. k.items ++ c.args.item ∷ []) c.self.view_is)
+    rw (map-set, added) (items_more blocks c.self.inside.len c.in-Some.block.now.items c.args.item c.self.invariant.filled there
+    ∙ ap (λ k. k.items ++ c.args.item ∷ []) c.self.view_is)
 
 pub invariant_of-self : goal.invariant_of-self
 invariant_of-self g c =
@@ -38,7 +40,8 @@ invariant_of-self g c =
     let there : slice_get blocks place ≡ Some c.in-Some.block.now.items =
     slice_get-map (λ v. v.items) c.self.inside.blocks.items place ∙ ap (option_map (λ v. v.items)) at in
     let added : c.push.new.self.items ≡ c.in-Some.block.now.items ++ c.args.item ∷ [] = search rules in
-    let wide : 1024 ≤ vec_capacity c.in-Some.block.now = all_get (λ b. 1024 ≤ vec_capacity b) c.self.inside.blocks.items place c.in-Some.block.now c.self.invariant.placed at in
+    let wide : 1024 ≤ vec_capacity c.in-Some.block.now =
+    all_get (λ b. 1024 ≤ vec_capacity b) c.self.inside.blocks.items place c.in-Some.block.now c.self.invariant.placed at in
     let still : 1024 ≤ vec_capacity c.push.new.self = search rules in
     record {
       filled = rw (map-set, added) (filled_more blocks c.self.inside.len c.in-Some.block.now.items c.args.item c.self.invariant.filled there);

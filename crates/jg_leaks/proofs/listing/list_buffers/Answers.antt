@@ -16,4 +16,5 @@ returns-clause-listed g c = λ p stands.
     (subst (λ (xs : List BufId). IsPermutation xs c.sort_unstable_by_key.new.self.items) all c.sort_unstable_by_key.ensures.permutation)
 
 pub returns-clause-ascending : goal.returns-clause-ascending
-returns-clause-ascending g c = c.sort_unstable_by_key.ensures.sorted buffer_key (always_returns_same _ (λ a r. r ≡ buffer_key a.0.now) _ (λ a r f' k. search rules))
+returns-clause-ascending g c =
+    c.sort_unstable_by_key.ensures.sorted buffer_key (always_returns_same _ (λ a r. r ≡ buffer_key a.0.now) _ (λ a r f' k. search rules))

@@ -14,7 +14,8 @@ returns-clause-listed g c = λ p stands.
     let locals = map local_ref c.args.view.now.locals.now.rows.locals in
     let globals = map strong_ref c.args.view.now.globals.now.strong ++ map weak_ref c.args.view.now.globals.now.weak in
     let all : c.list-2.new.refs.items ≡ refs_of (rows_in c.args.view.now) =
-    c.in_ok-list-2.ensures.ok ∙ ap (λ (xs : List Ref). xs ++ globals) (c.in_ok-list.ensures.ok ∙ ap (λ (xs : List Ref). xs ++ locals) c.new-refs.ensures.items) in
+    c.in_ok-list-2.ensures.ok ∙ ap (λ (xs : List Ref). xs ++ globals) (c.in_ok-list.ensures.ok ∙ ap (λ (xs : List Ref). xs ++ locals) c.new-refs.ensures.items)
+    in
     listed_in_order (rows_in c.args.view.now) p stands c.sort_unstable_by_key.new.self.items
     (subst (λ (xs : List Ref). IsPermutation xs c.sort_unstable_by_key.new.self.items) all c.sort_unstable_by_key.ensures.permutation)
 

@@ -18,7 +18,8 @@ returns-else-is_err-clause-taken g c =
     let within : i < most = omega (arith, high, long) in
     let rested = c.fill_buf.follows.lender-at-none in
     let filled = subst (FillKeeps _ (g.B.Read.remaining rested) (g.B.BufRead.consumable_len rested)) c.in-Ok.is c.fill_buf.follows.holds-at-none in
-    let moved = Consumes_shown _ _ _ _ shown (i + 1) (omega (arith, within, fits)) c.in-Ok.ensures.front c.in-Ok.ensures.end filled.0 filled.1 c.consume.ensures.bytes in
+    let moved = Consumes_shown _ _ _ _ shown (i + 1) (omega (arith, within, fits)) c.in-Ok.ensures.front c.in-Ok.ensures.end filled.0 filled.1
+    c.consume.ensures.bytes in
     let short = length-take-le i shown (omega (arith, within, fits)) in (
       take i shown,
       search rules,

@@ -20,4 +20,5 @@ pub returns-clause-found : goal.returns-clause-found
 returns-clause-found g c =
     let is : at c.args.maker c.args.tables.now ≡ Some c.in_ok-numbers.numbers.now = search rules in
     let last : slice_get c.seats.result.now (length c.seats.result.now - 1) ≡ Some c.in_ok-seat.seat.now = search rules in
-    number_found c.args.maker c.args.tables.now c.in_ok-numbers.numbers.now c.seats.result.now _ c.in_ok-seat.seat.now c.get.ensures.once is c.seats.ensures.seats last
+    number_found c.args.maker c.args.tables.now c.in_ok-numbers.numbers.now c.seats.result.now _ c.in_ok-seat.seat.now c.get.ensures.once is
+    c.seats.ensures.seats last

@@ -7,4 +7,5 @@ use Rattle.jg_lists.proofs.slots.find_slot.Given as goal
 
 -- none of the slots so far is free, or has the place of the number's seat
 abbrev pub invariant-loop-step : goal.invariant-loop-step
-invariant-loop-step g l = (j : ℕ) → j < l.step → Passes l.slots.items (map number_of l.seats.items) l.number (spot (length l.slots.items) (home (length l.slots.items) l.number) j)
+invariant-loop-step g l = (j : ℕ) → j < l.step
+    → Passes l.slots.items (map number_of l.seats.items) l.number (spot (length l.slots.items) (home (length l.slots.items) l.number) j)

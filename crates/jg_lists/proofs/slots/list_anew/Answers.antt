@@ -13,8 +13,10 @@ loop-seat-preserved g c =
     let number : c.index.result.now.number ≡ get_or (map number_of seats) c.loop-seat.seat 0 =
     ap number_of c.index.ensures ∙ sym (get_or-map number_of seats c.loop-seat.seat c.index.result.now 0 inside) in
     record {
-      found = listed_more c.loop-seat.slots.items c.take_slot.new.slots.items (map number_of seats) c.loop-seat.seat c.take_slot.ensures.many c.take_slot.ensures.others
-          (subst (λ n. Reaches c.take_slot.new.slots.items (home (length c.take_slot.new.slots.items) n) (c.loop-seat.seat + 1)) number c.take_slot.ensures.reaches) c.loop-seat.invariant.found;
+      found = listed_more c.loop-seat.slots.items c.take_slot.new.slots.items (map number_of seats) c.loop-seat.seat c.take_slot.ensures.many
+          c.take_slot.ensures.others
+          (subst (λ n. Reaches c.take_slot.new.slots.items (home (length c.take_slot.new.slots.items) n) (c.loop-seat.seat + 1)) number
+          c.take_slot.ensures.reaches) c.loop-seat.invariant.found;
       counted = omega (arith, c.take_slot.ensures.counted, c.loop-seat.invariant.counted);
       many = c.take_slot.ensures.many ∙ c.loop-seat.invariant.many;
     }

@@ -7,7 +7,8 @@ use Rattle.jg_lists.proofs.slots.list_anew.Given as goal
 -- the numbers of the seats so far are found
 abbrev pub invariant-loop-seat : goal.invariant-loop-seat
 invariant-loop-seat g l = record {
-  found : (i : ℕ) → i < l.seat → i < length (map number_of l.seats.items) → Reaches l.slots.items (home (length l.slots.items) (get_or (map number_of l.seats.items) i 0)) (i + 1);
+  found : (i : ℕ) → i < l.seat → i < length (map number_of l.seats.items)
+      → Reaches l.slots.items (home (length l.slots.items) (get_or (map number_of l.seats.items) i 0)) (i + 1);
   counted : filled l.slots.items ≤ l.seat;
   many : length l.slots.items ≡ length l.initial.slots.items;
 }

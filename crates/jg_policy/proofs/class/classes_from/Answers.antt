@@ -19,7 +19,8 @@ from_value-requires c =
     let i = c.loop-value.value-index in
     let below : i < length c.args.values.now = omega arith in
     refuted _ _ c.requires
-    (λ own. twice_here c.args.values.now i c.value-item.result below c.value-item.is (λ rest. twice_member _ (class_stated (view c.value-item.result)) rest own))
+    (λ own. twice_here c.args.values.now i c.value-item.result below c.value-item.is
+    (λ rest. twice_member _ (class_stated (view c.value-item.result)) rest own))
 
 pub loop-value-preserved : goal.loop-value-preserved
 loop-value-preserved c =
@@ -32,7 +33,8 @@ loop-value-preserved c =
     rw (c.loop-value.invariant)
     (refuted _ _ c.requires
     (λ old. twice_here c.args.values.now i c.value-item.result below c.value-item.is
-    (λ rest. twice_name _ (class_stated (view c.value-item.result)) rest (ap (λ (d : StatedClass). list_any (bytes_eq d.name) (names done)) (sym c.in_ok-name.ensures) ∙ old)))) in
+    (λ rest. twice_name _ (class_stated (view c.value-item.result)) rest
+    (ap (λ (d : StatedClass). list_any (bytes_eq d.name) (names done)) (sym c.in_ok-name.ensures) ∙ old)))) in
     let none : get string_eq c.loop-value.classes e.0 ≡ None = None-if_not_some _ (sym (any_named (string_bytes e.0) es) ∙ new) in
     let put : c.insert.new.self.entries ≡ es ++ e ∷ [] = c.in_ok-insert.ensures.entries ∙ insert_entry-new string_eq c.loop-value.classes e.0 e.1 none in
     rw put (kept_more class_view class_stated es e c.args.values.now i c.value-item.result below c.value-item.is c.in_ok-name.ensures c.loop-value.invariant)

@@ -18,4 +18,5 @@ loop-value-preserved c =
     ∙ rw (c.loop-value.invariant, c.in_ok-from_value.ensures)
     (refuted _ _ c.requires (stated_again same_member member_stated c.args.values.now i c.value-item.result below c.value-item.is)) in
     let put : c.insert.new.self.keys ≡ keys ++ m ∷ [] = c.in_ok-insert.ensures.keys ∙ ap (λ b. if b then keys else keys ++ m ∷ []) new in
-    rw put (kept_more member_view member_stated keys m c.args.values.now i c.value-item.result below c.value-item.is c.in_ok-from_value.ensures c.loop-value.invariant)
+    rw put (kept_more member_view member_stated keys m c.args.values.now i c.value-item.result below c.value-item.is c.in_ok-from_value.ensures
+    c.loop-value.invariant)

@@ -14,4 +14,5 @@ pub loop-class-preserved : goal.loop-class-preserved
 loop-class-preserved c =
     let i = c.loop-class.class-index in
     let below : i < length c.args.classes.now = omega arith in
-    none_more has_many_members class_stated c.args.classes.now i c.class-item.result below c.class-item.is (sym c.if-has_many_members.ensures) c.loop-class.invariant
+    none_more has_many_members class_stated c.args.classes.now i c.class-item.result below c.class-item.is (sym c.if-has_many_members.ensures)
+    c.loop-class.invariant

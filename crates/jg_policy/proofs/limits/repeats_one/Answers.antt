@@ -23,8 +23,15 @@ loop-member-preserved c =
     ∙ true_not _ (sym c.if-not-branch.false ∙ c.in_ok-insert.ensures.added) in
     record {
       seen = λ name signature. c.in_ok-insert.ensures.updates.0 (text name, text signature)
-          ∙ rw (each_item-more member_stated c.args.members.now i c.member-item.result below, ← c.member-item.is, ← c.text_in.ensures, ← c.text_in-in-loop-member.ensures)
-          (pair_put (c.text_in.result, c.text_in-in-loop-member.result) (record { name = name; signature = signature }) _ _ (c.loop-member.invariant.seen name signature));
+          ∙ rw (
+            each_item-more member_stated c.args.members.now i c.member-item.result below,
+            ← c.member-item.is,
+            ← c.text_in.ensures,
+            ←
+                c.text_in-in-loop-member.ensures,
+          )
+          (pair_put (c.text_in.result, c.text_in-in-loop-member.result) (record { name = name; signature = signature }) _ _
+          (c.loop-member.invariant.seen name signature));
       once = stated_once same_member member_stated c.args.members.now i c.member-item.result below c.member-item.is
           (rw (← c.text_in.ensures, ← c.text_in-in-loop-member.ensures) new) c.loop-member.invariant.once;
     }

@@ -12,6 +12,7 @@ use Rattle.jg_policy.proofs.limits.states_twice.Given as goal
 abbrev pub invariant-loop-class : goal.invariant-loop-class
 invariant-loop-class l =
     record {
-      seen : (name : List ℕ) → contains text_order l.seen (text name) ≡ list_any (bytes_eq name) (names (each_item class_stated (items_view (take l.class-index l.classes))));
+      seen : (name : List ℕ) → contains text_order l.seen (text name)
+          ≡ list_any (bytes_eq name) (names (each_item class_stated (items_view (take l.class-index l.classes))));
       once : states_twice (each_item class_stated (items_view (take l.class-index l.classes))) ≡ false;
     }

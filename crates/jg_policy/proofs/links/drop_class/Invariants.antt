@@ -9,6 +9,7 @@ use Rattle.jg_policy.proofs.links.drop_class.Given as goal
 -- the class's links below the number are gone, and the others stay
 abbrev pub invariant-loop-native : goal.invariant-loop-native
 invariant-loop-native g l = record {
-  dropped : (q : Link) → list_any (same_link q) l.linked.keys ≡ (if l.class == q.class && nat_lt q.native l.native then false else list_any (same_link q) l.initial.linked.keys);
+  dropped : (q : Link) → list_any (same_link q) l.linked.keys
+      ≡ (if l.class == q.class && nat_lt q.native l.native then false else list_any (same_link q) l.initial.linked.keys);
   room : spare l.initial.linked ≤ spare l.linked;
 }

@@ -6,4 +6,5 @@ use Rattle.jg_table_buffers.proofs.visits.list_in.Goals as goal
 
 pub returns-clause-ok : goal.returns-clause-ok
 returns-clause-ok g c = on_ok_weaker c.list_numbers.result
-    (λ listed. listed ∙ ap (λ l. c.args.buffers.now.items ++ l) (seat_names (λ n. key_name (c.args.maker, n)) c.seats.result.now c.args.numbers.now c.seats.ensures.seats)) c.list_numbers.ensures.ok
+    (λ listed. listed ∙ ap (λ l. c.args.buffers.now.items ++ l)
+    (seat_names (λ n. key_name (c.args.maker, n)) c.seats.result.now c.args.numbers.now c.seats.ensures.seats)) c.list_numbers.ensures.ok

@@ -6,4 +6,5 @@ use Rattle.jg_table_buffers.proofs.visits.list_numbers_through.Given as goal
 -- the names so far of those that were opened through the reference are appended
 abbrev pub invariant-loop-seat : goal.invariant-loop-seat
 invariant-loop-seat g l =
-    l.buffers.items ≡ l.initial.buffers.items ++ map (λ seat. key_name (l.maker, seat.number)) (filter (λ seat. same_ref seat.value.via l.via) (take l.seat-index l.numbers))
+    l.buffers.items ≡ l.initial.buffers.items
+    ++ map (λ seat. key_name (l.maker, seat.number)) (filter (λ seat. same_ref seat.value.via l.via) (take l.seat-index l.numbers))

@@ -14,11 +14,13 @@ loop-table-preserved g c =
     listed_more key_name c.seats-table-items.result.now c.loop-table.table-index c.table-item.result
     c.args.buffers.now.items c.loop-table.buffers.items c.list_in.new.buffers.items c.loop-table-test.true
     c.loop-table.invariant
-    (subst (λ (table : Numbered (List (ℕ × Pinned))). c.list_in.new.buffers.items ≡ c.loop-table.buffers.items ++ map (λ e. key_name (table.number, e.0)) table.value) c.table-item.is
+    (subst (λ (table : Numbered (List (ℕ × Pinned))). c.list_in.new.buffers.items
+    ≡ c.loop-table.buffers.items ++ map (λ e. key_name (table.number, e.0)) table.value) c.table-item.is
     c.in_ok-list_in.ensures.ok)
 
 pub returns-clause-ok : goal.returns-clause-ok
 returns-clause-ok g c =
     c.loop-table.invariant
     ∙ ap (λ (tables : List (ℕ × List (ℕ × Pinned))). c.args.buffers.now.items ++ map (λ (e : Name × Pinned). key_name e.0) (named tables))
-    (ap (map seen) (take_all c.loop-table.table-index c.seats-table-items.result.now (omega (arith, c.loop-table-test.false))) ∙ c.seats-table-items.ensures.seats)
+    (ap (map seen) (take_all c.loop-table.table-index c.seats-table-items.result.now (omega (arith, c.loop-table-test.false)))
+    ∙ c.seats-table-items.ensures.seats)

@@ -24,5 +24,7 @@ loop-table-preserved g c =
 pub returns : goal.returns
 returns g c =
     c.loop-table.invariant
-    ∙ ap (λ (tables : List (ℕ × List (ℕ × Pinned))). c.args.buffers.now.items ++ map (λ (e : Name × Pinned). key_name e.0) (filter (λ e. same_ref e.1.via c.args.via) (named tables)))
-    (ap (map seen) (take_all c.loop-table.table-index c.seats-table-items.result.now (omega (arith, c.loop-table-test.false))) ∙ c.seats-table-items.ensures.seats)
+    ∙ ap (λ (tables : List (ℕ × List (ℕ × Pinned))). c.args.buffers.now.items
+    ++ map (λ (e : Name × Pinned). key_name e.0) (filter (λ e. same_ref e.1.via c.args.via) (named tables)))
+    (ap (map seen) (take_all c.loop-table.table-index c.seats-table-items.result.now (omega (arith, c.loop-table-test.false)))
+    ∙ c.seats-table-items.ensures.seats)

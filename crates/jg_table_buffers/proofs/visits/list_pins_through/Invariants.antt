@@ -8,4 +8,5 @@ use Rattle.jg_table_buffers.proofs.visits.list_pins_through.Given as goal
 -- the names of the tables so far are appended, of those that were opened through the reference
 abbrev pub invariant-loop-table : goal.invariant-loop-table
 invariant-loop-table g l =
-    l.buffers.items ≡ l.initial.buffers.items ++ map (λ e. key_name e.0) (filter (λ e. same_ref e.1.via l.via) (named (map seen (take l.table-index l.table-items))))
+    l.buffers.items ≡ l.initial.buffers.items
+    ++ map (λ e. key_name e.0) (filter (λ e. same_ref e.1.via l.via) (named (map seen (take l.table-index l.table-items))))

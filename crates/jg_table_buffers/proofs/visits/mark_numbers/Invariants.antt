@@ -6,4 +6,5 @@ use Rattle.jg_table_buffers.proofs.visits.mark_numbers.Given as goal
 
 -- the objects so far are marked
 abbrev pub invariant-loop-seat : goal.invariant-loop-seat
-invariant-loop-seat g l = Marks (λ o. list_any (λ seat. seat.value.object == o) (take l.seat-index l.numbers)) (g.M.Marking.mark_of l.initial.marks) (g.M.Marking.mark_of l.marks)
+invariant-loop-seat g l =
+    Marks (λ o. list_any (λ seat. seat.value.object == o) (take l.seat-index l.numbers)) (g.M.Marking.mark_of l.initial.marks) (g.M.Marking.mark_of l.marks)

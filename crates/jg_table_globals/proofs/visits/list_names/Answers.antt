@@ -12,11 +12,14 @@ pub loop-table-preserved : goal.loop-table-preserved
 loop-table-preserved g c =
     listed_more (ref_named c.args.kind) c.seats-table-items.result.now c.loop-table.table-index c.table-item.result
     c.args.refs.now.items c.loop-table.refs.items c.list_in.new.refs.items c.loop-table-test.true c.loop-table.invariant
-    (subst (λ (table : Numbered (List (ℕ × g.row.V.Denot))). c.list_in.new.refs.items ≡ c.loop-table.refs.items ++ map (λ e. ref_named c.args.kind (table.number, e.0)) table.value) c.table-item.is
+    (subst (λ (table : Numbered (List (ℕ × g.row.V.Denot))). c.list_in.new.refs.items
+    ≡ c.loop-table.refs.items ++ map (λ e. ref_named c.args.kind (table.number, e.0)) table.value) c.table-item.is
     c.in_ok-list_in.ensures.ok)
 
 pub returns-clause-ok : goal.returns-clause-ok
 returns-clause-ok g c =
     c.loop-table.invariant
-    ∙ ap (λ (tables : List (ℕ × List (ℕ × g.row.V.Denot))). c.args.refs.now.items ++ map (λ (e : Name × g.row.V.Denot). ref_named c.args.kind e.0) (named tables))
-    (ap (map seen) (take_all c.loop-table.table-index c.seats-table-items.result.now (omega (arith, c.loop-table-test.false))) ∙ c.seats-table-items.ensures.seats)
+    ∙ ap (λ (tables : List (ℕ × List (ℕ × g.row.V.Denot))). c.args.refs.now.items ++ map (λ (e : Name × g.row.V.Denot). ref_named c.args.kind e.0)
+    (named tables))
+    (ap (map seen) (take_all c.loop-table.table-index c.seats-table-items.result.now (omega (arith, c.loop-table-test.false)))
+    ∙ c.seats-table-items.ensures.seats)

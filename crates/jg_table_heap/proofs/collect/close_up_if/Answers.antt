@@ -10,8 +10,10 @@ use Rattle.jg_table_heap.proofs.collect.close_up_if.Goals as goal
 pub returns-then-stale-len-clause-there : goal.returns-then-stale-len-clause-there
 returns-then-stale-len-clause-there g c loose =
     let there : ℕ → Bool = λ o. get_or c.args.there.now o false in
-    let kept : c.retain.new.self.items ≡ filter (λ b. list_any there (block_of b)) c.args.blocks.now.items = filter_same _ _ _ (λ x b f' k. search rules) _ _ c.retain.ensures.filtered in
-    ap (λ (bs : List ℕ). filter there (numbers_in bs loose (length c.args.there.now))) kept ∙ passing_numbers there c.args.blocks.now.items loose (length c.args.there.now)
+    let kept : c.retain.new.self.items ≡ filter (λ b. list_any there (block_of b)) c.args.blocks.now.items =
+    filter_same _ _ _ (λ x b f' k. search rules) _ _ c.retain.ensures.filtered in
+    ap (λ (bs : List ℕ). filter there (numbers_in bs loose (length c.args.there.now))) kept
+    ∙ passing_numbers there c.args.blocks.now.items loose (length c.args.there.now)
 
 pub returns-then-stale-len-clause-whole : goal.returns-then-stale-len-clause-whole
 returns-then-stale-len-clause-whole g c =

@@ -15,7 +15,8 @@ returns c =
     let end = c.min-end.result in
     let same : take (end - c.args.block) rest ≡ take 32 rest =
     elim (cases_lt (length rest) 32) [
-      | inl short ↦ take_all (end - c.args.block) rest (omega (arith, short, c.min-end.ensures, length-drop c.args.block c.args.there.now)) ∙ sym (take_all 32 rest (omega (arith, short)))
+      | inl short ↦ take_all (end - c.args.block) rest (omega (arith, short, c.min-end.ensures, length-drop c.args.block c.args.there.now))
+          ∙ sym (take_all 32 rest (omega (arith, short)))
       | inr full ↦
           let count : end - c.args.block ≡ 32 = omega (arith, full, c.min-end.ensures, length-drop c.args.block c.args.there.now, c.if-first-there.false) in
           ap (λ n. take n rest) count

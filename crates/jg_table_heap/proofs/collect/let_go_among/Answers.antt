@@ -6,7 +6,12 @@ use Rattle.jg_table_heap.proofs.collect.let_go_among.Goals.{then-is_let_go, else
 use Rattle.jg_table_heap.proofs.collect.let_go_among.Goals as goal
 
 pub loop-object-init : goal.loop-object-init
-loop-object-init g c = (lets_start (marked_or_root c.args.marks.now (g.R.Roots.is_root c.args.roots.now)) c.args.first c.args.there.now, omega arith, omega arith)
+loop-object-init g c = (
+  lets_start (marked_or_root c.args.marks.now (g.R.Roots.is_root c.args.roots.now)) c.args.first c.args.there.now,
+  omega arith,
+  omega
+      arith,
+)
 
 pub loop-object-preserved : goal.loop-object-preserved
 loop-object-preserved g c =

@@ -20,7 +20,9 @@ loop-block-preserved g c =
     let held : ℕ → Bool = marked_or_root c.args.marks.now (g.R.Roots.is_root c.args.roots.now) in
     let first : ℕ = get_or c.args.blocks.now c.loop-block.block-index 0 in
     let count : first + 32 - first ≡ 32 = omega arith in
-    let block = subst (λ os. LetsGo held os c.loop-block.there c.let_go_among-count.new.there) (ap (range_with_len first) count ∙ sym (block_is first)) c.let_go_among-count.ensures.there in (
-      lets_block held c.args.blocks.now c.loop-block.block-index c.args.there.now c.loop-block.there c.let_go_among-count.new.there c.loop-block-test.true c.loop-block.invariant.0 block,
+    let block = subst (λ os. LetsGo held os c.loop-block.there c.let_go_among-count.new.there) (ap (range_with_len first) count ∙ sym (block_is first))
+    c.let_go_among-count.ensures.there in (
+      lets_block held c.args.blocks.now c.loop-block.block-index c.args.there.now c.loop-block.there c.let_go_among-count.new.there c.loop-block-test.true
+          c.loop-block.invariant.0 block,
       omega (arith, c.loop-block.invariant.1, c.let_go_among-count.ensures.count),
     )

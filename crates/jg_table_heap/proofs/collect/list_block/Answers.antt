@@ -14,7 +14,8 @@ returns-then-not-misses g c =
     let count : first + 32 - first ≡ 32 = omega arith in
     sym (ap (λ (os : List ℕ). c.args.unheld.now.items ++ filter p os) (block_is first ∙ ap (range_with_len first) (sym count))
     ∙ ap (λ (os : List ℕ). c.args.unheld.now.items ++ os)
-    (none_missed c.args.there.now c.args.marks.now first (first + 32) c.misses.result (omega arith) c.requires c.if-not-misses.true c.misses.ensures.within c.misses.ensures.past)
+    (none_missed c.args.there.now c.args.marks.now first (first + 32) c.misses.result (omega arith) c.requires c.if-not-misses.true c.misses.ensures.within
+    c.misses.ensures.past)
     ∙ append-nil c.args.unheld.now.items)
 
 pub loop-part-preserved : goal.loop-part-preserved
@@ -29,7 +30,8 @@ loop-part-preserved g c =
     ∙ ap (λ (os : List ℕ). os ++ filter p (range_with_len at n)) c.loop-part.invariant
     ∙ append_assoc c.args.unheld.now.items (filter p (range_with_len first before)) (filter p (range_with_len at n))
     ∙ ap (λ (os : List ℕ). c.args.unheld.now.items ++ os)
-    (sym (filter-append p (range_with_len first before) (range_with_len at n)) ∙ ap (filter p) (range_joined first at before n refl ∙ ap (range_with_len first) count))
+    (sym (filter-append p (range_with_len first before) (range_with_len at n))
+    ∙ ap (filter p) (range_joined first at before n refl ∙ ap (range_with_len first) count))
 
 pub returns : goal.returns
 returns g c =

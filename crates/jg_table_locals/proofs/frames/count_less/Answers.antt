@@ -10,4 +10,5 @@ returns-in-Some-clause-counted g c =
     c.index.ensures c.requires c.in-Some.ensures)
 
 pub returns-in_default-clause-counted : goal.returns-in_default-clause-counted
-returns-in_default-clause-counted g c = unchanged_there one_less c.args.depth c.args.number c.deref.result.now c.args.frames.now.items c.deref.ensures.value c.in_default.ensures
+returns-in_default-clause-counted g c =
+    unchanged_there one_less c.args.depth c.args.number c.deref.result.now c.args.frames.now.items c.deref.ensures.value c.in_default.ensures

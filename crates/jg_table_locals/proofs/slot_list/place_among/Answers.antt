@@ -10,4 +10,5 @@ returns-in-Ok g c =
     (c.in-Ok.ensures.bound, λ (s : LocalSlot). equal_is _ _ (at s))
 
 pub returns-in-Err : goal.returns-in-Err
-returns-in-Err g c = no_place c.args.slots.now c.args.n c.in-Err._place c.requires (c.in-Err.ensures.position (λ s. s.n) (always_returns_same _ _ _ (λ a r f' k. search rules)))
+returns-in-Err g c = no_place c.args.slots.now c.args.n c.in-Err._place c.requires
+    (c.in-Err.ensures.position (λ s. s.n) (always_returns_same _ _ _ (λ a r f' k. search rules)))

@@ -14,7 +14,13 @@ loop-from-preserved g c =
       (λ frames sound. sound_front c.pop.new.self.items c.loop-from.slots.items c.pop.result frames was (c.loop-from.invariant.2 frames sound)),
       omega (arith, c.loop-from.invariant.3, c.pop.ensures.room),
       omega (arith, c.loop-from.invariant.4, ap dead_in was, dead-append c.pop.new.self.items (option_to_list c.pop.result)),
-      omega (arith, c.loop-from.invariant.5, ap (λ slots. length (filter is_live slots)) was, live-append c.pop.new.self.items (option_to_list c.pop.result), c.live_count-ended.ensures),
+      omega (
+        arith,
+        c.loop-from.invariant.5,
+        ap (λ slots. length (filter is_live slots)) was,
+        live-append c.pop.new.self.items (option_to_list c.pop.result),
+        c.live_count-ended.ensures,
+      ),
     )
 
 pub overflow_add-ended : goal.overflow_add-ended

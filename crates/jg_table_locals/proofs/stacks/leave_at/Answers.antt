@@ -6,4 +6,5 @@ use Rattle.jg_table_locals.proofs.stacks.leave_at.Goals as goal
 pub returns-in-Some-clause-counted : goal.returns-in-Some-clause-counted
 returns-in-Some-clause-counted g c =
     let is : stack_at c.args.tid c.args.stacks.now ≡ Some c.in-Some.stack.now = search rules in
-    counts_ended c.args.stacks.now (c.get_mut.follows.lender c.leave.new.self) _ c.in-Some.stack.now c.leave.new.self _ (c.get_mut.follows.holds c.leave.new.self).entries is c.leave.ensures.ended
+    counts_ended c.args.stacks.now (c.get_mut.follows.lender c.leave.new.self) _ c.in-Some.stack.now c.leave.new.self _
+    (c.get_mut.follows.holds c.leave.new.self).entries is c.leave.ensures.ended

@@ -10,8 +10,10 @@ use Rattle.jg_table_locals.proofs.stacks.list_in.Goals as goal
 
 pub loop-seat-preserved : goal.loop-seat-preserved
 loop-seat-preserved g c =
-    listed_more c.seats-seat-items.result.now c.loop-seat.seat-index c.seat-item.result c.args.refs.now.items c.loop-seat.refs.items c.list.new.refs.items c.loop-seat-test.true c.loop-seat.invariant
-    (subst (λ (seat : Numbered StackRows). c.list.new.refs.items ≡ c.loop-seat.refs.items ++ map (slot_ref seat.number) seat.value.locals) c.seat-item.is c.in_ok-list.ensures.ok)
+    listed_more c.seats-seat-items.result.now c.loop-seat.seat-index c.seat-item.result c.args.refs.now.items c.loop-seat.refs.items c.list.new.refs.items
+    c.loop-seat-test.true c.loop-seat.invariant
+    (subst (λ (seat : Numbered StackRows). c.list.new.refs.items ≡ c.loop-seat.refs.items ++ map (slot_ref seat.number) seat.value.locals) c.seat-item.is
+    c.in_ok-list.ensures.ok)
 
 pub returns-clause-ok : goal.returns-clause-ok
 returns-clause-ok g c =

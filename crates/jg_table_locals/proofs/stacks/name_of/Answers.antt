@@ -11,7 +11,8 @@ loop-seat-preserved g c =
 
 pub returns-in-Some : goal.returns-in-Some
 returns-in-Some g c =
-    subst (λ (seat : Numbered StackRows). ◌≡◌ {A = Option (ℕ × ℕ)} (Some (seat.number, c.in-Some.n)) (name_in c.args.object c.args.stacks.now)) (sym c.seat-item.is)
+    subst (λ (seat : Numbered StackRows). ◌≡◌ {A = Option (ℕ × ℕ)} (Some (seat.number, c.in-Some.n)) (name_in c.args.object c.args.stacks.now))
+    (sym c.seat-item.is)
     (name_here c.args.object c.seats-seat-items.result.now c.loop-seat.seat-index c.seat-item.result c.loop-seat-test.true c.loop-seat.invariant c.in-Some.n
     (subst (λ (seat : Numbered StackRows). Some c.in-Some.n ≡ number_in c.args.object seat.value) c.seat-item.is c.in-Some.ensures)
     ∙ ap (name_in c.args.object) c.seats-seat-items.ensures.seats)

@@ -13,5 +13,6 @@ returns-in-Some-clause-rows g c =
 pub returns-in-Some-clause-counted : goal.returns-in-Some-clause-counted
 returns-in-Some-clause-counted g c =
     let is : stack_at c.args.tid c.args.stacks.now ≡ Some c.in-Some.stack.now = search rules in
-    counts_same c.args.stacks.now (c.get_mut.follows.lender c.reserve_frame.new.self) _ c.in-Some.stack.now c.reserve_frame.new.self (c.get_mut.follows.holds c.reserve_frame.new.self).entries is
+    counts_same c.args.stacks.now (c.get_mut.follows.lender c.reserve_frame.new.self) _ c.in-Some.stack.now c.reserve_frame.new.self
+    (c.get_mut.follows.holds c.reserve_frame.new.self).entries is
     c.reserve_frame.ensures.locals

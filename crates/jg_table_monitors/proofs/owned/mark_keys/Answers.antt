@@ -14,7 +14,9 @@ use Rattle.jg_table_monitors.proofs.owned.mark_keys.Goals as goal
 pub returns : goal.returns
 returns g c =
     let seats : List (Numbered Owned) = c.seats-seat-items.result.now in
-    let keys : map (λ (seat : Numbered Owned). seat.number) seats ≡ keys_of c.args.map.now = sym (map-map (λ e. e.0) seen seats) ∙ ap keys_of c.seats-seat-items.ensures.seats in
+    let keys : map (λ (seat : Numbered Owned). seat.number) seats ≡ keys_of c.args.map.now =
+    sym (map-map (λ e. e.0) seen seats) ∙ ap keys_of c.seats-seat-items.ensures.seats in
     marks_alike _ _ _ _
-    (λ o. list_any-map (λ (seat : Numbered Owned). seat.number) (λ seat. seat.number == o) (λ k. k == o) (λ seat. refl) seats ∙ ap (list_any (λ k. k == o)) keys)
+    (λ o. list_any-map (λ (seat : Numbered Owned). seat.number) (λ seat. seat.number == o) (λ k. k == o) (λ seat. refl) seats
+    ∙ ap (list_any (λ k. k == o)) keys)
     (marks_all (λ (seat : Numbered Owned) p. seat.number == p) seats c.loop-seat.seat-index _ _ c.loop-seat-test.false c.loop-seat.invariant)

@@ -11,7 +11,8 @@ returns-then-place-raised-clause-front g c =
 pub returns-clause-others : goal.returns-clause-others
 returns-clause-others g c =
     let behind : c.args.raised ≤ c.in-Some.place = grind (arith, nat_tests, c.if-place-raised.false) in
-    others_raised c.args.seats.now c.swap.new.self c.args.tid c.in-Some.place c.args.raised c.requires.calm c.in-Some.ensures.found c.swap.ensures.found c.swap.ensures.same behind c.swap.ensures.moved
+    others_raised c.args.seats.now c.swap.new.self c.args.tid c.in-Some.place c.args.raised c.requires.calm c.in-Some.ensures.found c.swap.ensures.found
+    c.swap.ensures.same behind c.swap.ensures.moved
 
 pub returns-clause-front : goal.returns-clause-front
 returns-clause-front g c =

@@ -6,4 +6,5 @@ use Rattle.jg_table_threads.proofs.rows.thread_in.Given as goal
 
 -- what is found in the rows that are left is what is found in all
 abbrev pub invariant-loop-seat : goal.invariant-loop-seat
-invariant-loop-seat l = number_where (λ row. is_object l.object row.pending) (map seen (drop l.seat-index l.seats)) ≡ number_where (λ row. is_object l.object row.pending) (map seen l.seats)
+invariant-loop-seat l = number_where (λ row. is_object l.object row.pending) (map seen (drop l.seat-index l.seats))
+    ≡ number_where (λ row. is_object l.object row.pending) (map seen l.seats)

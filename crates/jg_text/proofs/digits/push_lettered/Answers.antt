@@ -7,5 +7,6 @@ use Rattle.jg_text.proofs.digits.push_lettered.Goals as goal
 
 pub from_utf8_unchecked-requires : goal.from_utf8_unchecked-requires
 from_utf8_unchecked-requires c =
-    let ascii = IsUtf8-from_ascii (c.args.letter ∷ dotted_text c.args.a c.args.b) (ascii_lettered c.args.letter c.args.a c.args.b c.requires (omega arith) (omega arith)) in
+    let ascii = IsUtf8-from_ascii (c.args.letter ∷ dotted_text c.args.a c.args.b)
+    (ascii_lettered c.args.letter c.args.a c.args.b c.requires (omega arith) (omega arith)) in
     subst IsUtf8 (sym (c.split_at.ensures.back ∙ c.write_lettered-start.ensures.written)) ascii

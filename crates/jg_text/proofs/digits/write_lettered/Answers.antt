@@ -26,5 +26,6 @@ put_before-requires c =
 
 pub returns-clause-written : goal.returns-clause-written
 returns-clause-written c =
-    lettered c.args.letter c.args.a c.args.b _ _ _ _ _ (drop_all 42 c.args.buffer.now (omega arith)) c.write_digits-second.ensures.written c.put_before-stop.ensures.written
+    lettered c.args.letter c.args.a c.args.b _ _ _ _ _ (drop_all 42 c.args.buffer.now (omega arith)) c.write_digits-second.ensures.written
+    c.put_before-stop.ensures.written
     c.write_digits-first.ensures.written c.put_before.ensures.written

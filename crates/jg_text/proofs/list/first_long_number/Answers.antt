@@ -15,7 +15,8 @@ returns-in-Some-signed_number-clause-some c =
 pub returns-in-None-signed_number-clause-none : goal.returns-in-None-signed_number-clause-none
 returns-in-None-signed_number-clause-none c =
     let cut = c.in-Some.ensures.some in
-    no_number c.args.text.now c.in-Some.front.now (pieces c.in-Some.back.now) (ap pieces cut.0 ∙ split_first 44 c.in-Some.front.now c.in-Some.back.now cut.1) c.in-None-signed_number.ensures.none
+    no_number c.args.text.now c.in-Some.front.now (pieces c.in-Some.back.now) (ap pieces cut.0 ∙ split_first 44 c.in-Some.front.now c.in-Some.back.now cut.1)
+    c.in-None-signed_number.ensures.none
 
 pub returns-in-Some-signed_number-2-clause-some : goal.returns-in-Some-signed_number-2-clause-some
 returns-in-Some-signed_number-2-clause-some c =

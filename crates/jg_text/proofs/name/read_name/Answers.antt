@@ -8,5 +8,6 @@ pub returns-in_default-clause-err : goal.returns-in_default-clause-err
 returns-in_default-clause-err c = λ _. (
   refl,
   λ spelt. (let name : IsName c.args.text.now = subst IsName (sym spelt.2) spelt.1 in
-      c.in_default.ensures.cases.0 (IsUtf8-from_ascii c.args.text.now (IsAscii-from_all c.args.text.now (λ k d within. let v = name.2 k d within in omega (arith, v))))),
+      c.in_default.ensures.cases.0
+      (IsUtf8-from_ascii c.args.text.now (IsAscii-from_all c.args.text.now (λ k d within. let v = name.2 k d within in omega (arith, v))))),
 )

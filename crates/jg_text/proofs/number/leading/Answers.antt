@@ -38,5 +38,6 @@ pub returns-clause-spelt : goal.returns-clause-spelt
 returns-clause-spelt c =
     let inv = c.loop-count.invariant in
     let some : 0 < length c.split_at.result.0.now = search rules in
-    spelt_in_front c.args.text.now c.split_at.result.0.now c.split_at.result.1.now c.loop-count.n c.loop-count.count inv.within inv.short c.split_at.ensures.front c.split_at.ensures.back
+    spelt_in_front c.args.text.now c.split_at.result.0.now c.split_at.result.1.now c.loop-count.n c.loop-count.count inv.within inv.short
+    c.split_at.ensures.front c.split_at.ensures.back
     (c.if-not-is_plain.ensures.0 refl) some inv.digits inv.value

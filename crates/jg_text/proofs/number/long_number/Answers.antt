@@ -13,7 +13,8 @@ returns-in_default-clause-none c = λ n small e. c.in_default.ensures.cases.0 (u
 pub returns-in-Ok-parse-clause-some : goal.returns-in-Ok-parse-clause-some
 returns-in-Ok-parse-clause-some c =
     let same = c.in-Ok.ensures.cases.0 in
-    sym same ∙ spelt_by_parse c.in-Ok.text.now c.parse.result c.parse.ensures.value.0 (subst IsPlain (sym same) (c.if-not-is_plain.ensures.0 refl)) c.in-Ok-parse.n c.in-Ok-parse.is
+    sym same ∙ spelt_by_parse c.in-Ok.text.now c.parse.result c.parse.ensures.value.0 (subst IsPlain (sym same) (c.if-not-is_plain.ensures.0 refl))
+    c.in-Ok-parse.n c.in-Ok-parse.is
 
 pub returns-in-Err-clause-none : goal.returns-in-Err-clause-none
 returns-in-Err-clause-none c = λ n small e.

@@ -11,7 +11,9 @@ returns-in_default-first_number c =
 pub loop-left-preserved : goal.loop-left-preserved
 loop-left-preserved c =
     let so_far = rw c.in-Some.is at c.loop-left.invariant.so_far in
-    record { so_far = numbers_left c.args.text.now c.in-Some.rest.now _ (option_copied c.in-Some-first_number.behind) c.in-Some-first_number.ensures.some so_far }
+    record {
+      so_far = numbers_left c.args.text.now c.in-Some.rest.now _ (option_copied c.in-Some-first_number.behind) c.in-Some-first_number.ensures.some so_far;
+    }
 
 pub returns : goal.returns
 returns c =

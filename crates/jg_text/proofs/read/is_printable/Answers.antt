@@ -18,7 +18,8 @@ loop-i-preserved c =
           | then-line-i-lt32-via-then-line-i-lt32 v ↦ λ seen. absurd (omega (arith, seen, v.if-line-i-lt32.true))
           | then-line-i-lt32-via-else-line-i-lt32+then-line-i-gt126 v ↦ λ seen. absurd (omega (arith, seen, v.if-line-i-gt126.true))
         ])
-        | else-line-i-lt32+else-line-i-gt126 w ↦ seen_more xs i c.loop-i.others _ c.loop-i-test.true w.others-is (omega (arith, w.if-line-i-lt32.false, w.if-line-i-gt126.false))
+        | else-line-i-lt32+else-line-i-gt126 w ↦ seen_more xs i c.loop-i.others _ c.loop-i-test.true w.others-is
+            (omega (arith, w.if-line-i-lt32.false, w.if-line-i-gt126.false))
             c.loop-i.invariant.so_far
       ];
     }

@@ -18,8 +18,10 @@ returns-in-Ok-clause-spelt c =
       tid = c.in-Some.ensures.fits;
       env = c.in-Some-first_env.ensures.fits;
       call = operands.fits;
-      text = spelt_by_parts c.args.line.now c.in-Some.tid c.in-Some-first_env.env c.in-Some-of_bytes.fun c.in-Ok.call (tid_text c.in-Some.tid) (env_text c.in-Some-first_env.env)
-          c.cut.result.0.now c.in-Some-rest.rest.now c.in-Some-rest-2.rest.now (option_copied c.cut.result.1) first second third refl refl c.in-Some-of_bytes.ensures.some operands.fun
+      text = spelt_by_parts c.args.line.now c.in-Some.tid c.in-Some-first_env.env c.in-Some-of_bytes.fun c.in-Ok.call (tid_text c.in-Some.tid)
+          (env_text c.in-Some-first_env.env)
+          c.cut.result.0.now c.in-Some-rest.rest.now c.in-Some-rest-2.rest.now (option_copied c.cut.result.1) first second third refl refl
+          c.in-Some-of_bytes.ensures.some operands.fun
           operands.texts_are;
     }
 

@@ -7,7 +7,8 @@ pub returns : goal.returns
 returns g c = (
   (
     refl,
-    λ w. subst (λ (es : List (ℕ × List (ℕ × g.row.V.Denot))). WritesThrough c.args.maker es w (c.get_mut.follows.lender w)) c.self.view_is (c.get_mut.follows.holds w),
+    λ w. subst (λ (es : List (ℕ × List (ℕ × g.row.V.Denot))). WritesThrough c.args.maker es w (c.get_mut.follows.lender w)) c.self.view_is
+        (c.get_mut.follows.holds w),
     c.get_mut.follows.holds-at-none ∙ c.self.view_is,
   ),
   record {

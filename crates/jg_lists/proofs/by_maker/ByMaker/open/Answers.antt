@@ -17,4 +17,5 @@ returns-then-contains-clause-once g c = subst (λ (es : List (ℕ × List (ℕ �
 -- an empty table adds no entry
 pub returns-clause-same : goal.returns-clause-same
 returns-clause-same g c =
-    opened c.args.maker c.self.inside.tables c.add.new.self c.in-Ok.numbers c.in_ok-add.ensures.added c.in-Ok.ensures.empty ∙ ap (λ (es : List (ℕ × List (ℕ × g.row.V.Denot))). named es) c.self.view_is
+    opened c.args.maker c.self.inside.tables c.add.new.self c.in-Ok.numbers c.in_ok-add.ensures.added c.in-Ok.ensures.empty
+    ∙ ap (λ (es : List (ℕ × List (ℕ × g.row.V.Denot))). named es) c.self.view_is

@@ -4,7 +4,8 @@ use Rattle.jg_lists.proofs.Values.{through, through_none}
 use Rattle.jg_lists.proofs.by_number.ByNumber.get_mut.Goals as goal
 
 pub value_at-requires-clause-own : goal.value_at-requires-clause-own
-value_at-requires-clause-own g c = ap (λ l. get_or l c.in-Some.found.seat 0) (keys_seen c.self.inside.seats.items c.args.self.now c.self.view_is) ∙ c.in-Some.ensures.found.own
+value_at-requires-clause-own g c = ap (λ l. get_or l c.in-Some.found.seat 0) (keys_seen c.self.inside.seats.items c.args.self.now c.self.view_is)
+    ∙ c.in-Some.ensures.found.own
 
 pub returns-in-Some : goal.returns-in-Some
 returns-in-Some g c = (

@@ -9,4 +9,5 @@ use Rattle.jg_lists.proofs.by_number.ByNumber.new.Goals as goal
 
 pub returns-clause-once : goal.returns-clause-once
 returns-clause-once g c =
-    subst (λ (seats : List (Numbered g.row.V.Denot)). IsOnce (map seen seats)) (sym c.new-2.ensures.items) (once {V = g.row.V.Denot} [] [] [] (placed_none []) refl)
+    subst (λ (seats : List (Numbered g.row.V.Denot)). IsOnce (map seen seats)) (sym c.new-2.ensures.items)
+    (once {V = g.row.V.Denot} [] [] [] (placed_none []) refl)

@@ -8,7 +8,8 @@ use Rattle.jg_lists.proofs.by_number.ByNumber.remove.Goals as goal
 
 pub returns-in_default-clause-was : goal.returns-in_default-clause-was
 returns-in_default-clause-was g c =
-    sym (not_found c.self.inside.slots.items c.self.inside.seats.items c.args.self.now c.args.number c.self.invariant.placed c.self.view_is (c.find_slot.ensures.none c.in_default.is))
+    sym (not_found c.self.inside.slots.items c.self.inside.seats.items c.args.self.now c.args.number c.self.invariant.placed c.self.view_is
+    (c.find_slot.ensures.none c.in_default.is))
 
 pub returns-in_default-clause-removed : goal.returns-in_default-clause-removed
 returns-in_default-clause-removed g c = λ q. removed_none c.args.self.now c.args.number q (sym (returns-in_default-clause-was g c))
@@ -30,7 +31,8 @@ returns-clause-was g c =
     let finds = c.in-Some.ensures.found in
     ap (λ (s : Numbered g.row.V.Denot). Some s.value) c.swap_remove-seat.ensures.value
     ∙ sym (found slots seats c.args.self.now c.args.number c.in-Some.found.seat c.swap_remove-seat.result c.self.invariant.placed c.self.view_is
-    (within slots seats c.args.number c.in-Some.found.slot c.in-Some.found.seat finds) (own_seat slots seats c.args.number c.in-Some.found.slot c.in-Some.found.seat c.swap_remove-seat.result finds))
+    (within slots seats c.args.number c.in-Some.found.slot c.in-Some.found.seat finds)
+    (own_seat slots seats c.args.number c.in-Some.found.slot c.in-Some.found.seat c.swap_remove-seat.result finds))
 
 pub returns-clause-taken : goal.returns-clause-taken
 returns-clause-taken g c =

@@ -4,7 +4,8 @@ use Rattle.jg_lists.proofs.Values.{set_at, set_once, none_some}
 use Rattle.jg_lists.proofs.by_number.ByNumber.set.Goals as goal
 
 pub value_at-requires-clause-own : goal.value_at-requires-clause-own
-value_at-requires-clause-own g c = ap (λ l. get_or l c.in-Some.found.seat 0) (keys_seen c.self.inside.seats.items c.args.self.now c.self.view_is) ∙ c.in-Some.ensures.found.own
+value_at-requires-clause-own g c = ap (λ l. get_or l c.in-Some.found.seat 0) (keys_seen c.self.inside.seats.items c.args.self.now c.self.view_is)
+    ∙ c.in-Some.ensures.found.own
 
 pub returns-in-Some-clause-set : goal.returns-in-Some-clause-set
 returns-in-Some-clause-set g c = λ q. set_at c.args.self.now c.args.number q c.value_at.result.now c.args.value (sym c.value_at.ensures.value)

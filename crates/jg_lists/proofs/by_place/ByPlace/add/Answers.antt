@@ -35,7 +35,8 @@ invariant_of-self-2 g c =
     placed_more c.widen.new.items.items c.self.inside.seats.items c.push.new.self.items c.args.self.now c.args.number c.in-Ok.place
     (record { number = c.args.number; value = c.args.value }) was c.self.view_is c.requires
     c.in_ok-widen.ensures.ok refl c.in_ok-push.ensures.items
-    (let more = ap length c.in_ok-push.ensures.items ∙ length-append c.self.inside.seats.items _ in omega (arith, more, c.in-Ok.ensures, c.len.ensures, c.self.inside.seats.ok))
+    (let more = ap length c.in_ok-push.ensures.items ∙ length-append c.self.inside.seats.items _
+    in omega (arith, more, c.in-Ok.ensures, c.len.ensures, c.self.inside.seats.ok))
 
 pub returns-clause-once : goal.returns-clause-once
 returns-clause-once g c = once (slice_set c.widen.new.items.items c.args.number c.in-Ok.place) c.push.new.self.items _ (invariant_of-self-2 g c) refl
@@ -43,5 +44,6 @@ returns-clause-once g c = once (slice_set c.widen.new.items.items c.args.number 
 pub returns-clause-found : goal.returns-clause-found
 returns-clause-found g c = λ t.
     let added : map seen c.push.new.self.items ≡ c.args.self.now ++ (c.args.number, c.args.value) ∷ [] =
-    seen_more c.self.inside.seats.items c.push.new.self.items c.args.self.now (record { number = c.args.number; value = c.args.value }) c.self.view_is c.in_ok-push.ensures.items in
+    seen_more c.self.inside.seats.items c.push.new.self.items c.args.self.now (record { number = c.args.number; value = c.args.value }) c.self.view_is
+    c.in_ok-push.ensures.items in
     rw added (added_at c.args.self.now c.args.number t c.args.value c.requires)

@@ -10,7 +10,8 @@ use Rattle.jg_lists.proofs.by_place.ByPlace.remove.Goals as goal
 pub returns-then-place-eq0-clause-was : goal.returns-then-place-eq0-clause-was
 returns-then-place-eq0-clause-was g c =
     let none : 0 ≡ c.number_at-place.result = grind (arith, nat_tests, c.if-place-eq0.true) in
-    sym (not_found c.self.inside.places.items c.self.inside.seats.items c.args.self.now c.args.number c.self.invariant c.self.view_is (none ∙ c.number_at-place.ensures))
+    sym (not_found c.self.inside.places.items c.self.inside.seats.items c.args.self.now c.args.number c.self.invariant c.self.view_is
+    (none ∙ c.number_at-place.ensures))
 
 pub returns-then-place-eq0-clause-removed : goal.returns-then-place-eq0-clause-removed
 returns-then-place-eq0-clause-removed g c = λ q. removed_none c.args.self.now c.args.number q (sym (returns-then-place-eq0-clause-was g c))
@@ -43,14 +44,25 @@ index-requires g c =
 pub index_mut-requires : goal.index_mut-requires
 index_mut-requires g c =
     let some : 1 ≤ c.number_at-place.result = grind (arith, nat_tests, c.if-place-eq0.false) in
-    let seated = within c.self.inside.places.items c.self.inside.seats.items c.args.number c.number_at-place.result c.self.invariant c.number_at-place.ensures some in
+    let seated = within c.self.inside.places.items c.self.inside.seats.items c.args.number c.number_at-place.result c.self.invariant c.number_at-place.ensures
+    some in
     let inside : c.len.result - 1 < length c.self.inside.seats.items = omega (arith, seated, c.len.ensures, c.self.inside.seats.ok) in
-    omega (arith, seat_inside c.self.inside.places.items c.self.inside.seats.items (c.len.result - 1) c.index.result.now c.self.invariant inside c.index.ensures, c.self.inside.places.ok)
+    omega (
+      arith,
+      seat_inside c.self.inside.places.items c.self.inside.seats.items (c.len.result - 1) c.index.result.now c.self.invariant inside
+          c.index.ensures,
+      c.self.inside.places.ok,
+    )
 
 pub swap_remove-seat-requires : goal.swap_remove-seat-requires
 swap_remove-seat-requires g c =
     let some : 1 ≤ c.number_at-place.result = grind (arith, nat_tests, c.if-place-eq0.false) in
-    omega (arith, within c.self.inside.places.items c.self.inside.seats.items c.args.number c.number_at-place.result c.self.invariant c.number_at-place.ensures some, c.self.inside.seats.ok)
+    omega (
+      arith,
+      within c.self.inside.places.items c.self.inside.seats.items c.args.number c.number_at-place.result c.self.invariant c.number_at-place.ensures
+          some,
+      c.self.inside.seats.ok,
+    )
 
 pub invariant_of-self : goal.invariant_of-self
 invariant_of-self g c =

@@ -5,7 +5,8 @@ use Rattle.jg_lists.proofs.by_place.ByPlace.value_mut.Goals as goal
 
 pub overflow_sub-place : goal.overflow_sub-place
 overflow_sub-place g c =
-    has_place c.self.inside.places.items c.self.inside.seats.items c.args.self.now c.args.number c.number_at-place.result c.self.invariant c.self.view_is c.number_at-place.ensures c.requires
+    has_place c.self.inside.places.items c.self.inside.seats.items c.args.self.now c.args.number c.number_at-place.result c.self.invariant c.self.view_is
+    c.number_at-place.ensures c.requires
 
 pub index_mut-requires : goal.index_mut-requires
 index_mut-requires g c =
@@ -21,7 +22,8 @@ invariant_of-self-lent g c w =
     placed_written c.self.inside.places.items c.self.inside.seats.items (c.number_at-place.result - 1) c.index_mut.result.now
     (record { number = c.index_mut.result.now.number; value = w }) c.self.invariant
     (within c.self.inside.places.items c.self.inside.seats.items c.args.number c.number_at-place.result c.self.invariant c.number_at-place.ensures
-    (has_place c.self.inside.places.items c.self.inside.seats.items c.args.self.now c.args.number c.number_at-place.result c.self.invariant c.self.view_is c.number_at-place.ensures c.requires))
+    (has_place c.self.inside.places.items c.self.inside.seats.items c.args.self.now c.args.number c.number_at-place.result c.self.invariant c.self.view_is
+    c.number_at-place.ensures c.requires))
     (ap (λ (s : Numbered g.row.V.Denot). s.number) (sym c.index_mut.ensures.value))
 
 pub returns : goal.returns
@@ -29,7 +31,8 @@ returns g c =
     let some = has_place c.self.inside.places.items c.self.inside.seats.items c.args.self.now c.args.number
     c.number_at-place.result c.self.invariant c.self.view_is c.number_at-place.ensures c.requires in
     let mine = ap (λ (s : Numbered g.row.V.Denot). s.number) c.index_mut.ensures.value
-    ∙ own_seat c.self.inside.places.items c.self.inside.seats.items c.args.number c.number_at-place.result c.index_mut.result.now c.self.invariant c.number_at-place.ensures some in
+    ∙ own_seat c.self.inside.places.items c.self.inside.seats.items c.args.number c.number_at-place.result c.index_mut.result.now c.self.invariant
+    c.number_at-place.ensures some in
     let value = found c.self.inside.places.items c.self.inside.seats.items c.args.self.now c.args.number c.number_at-place.result
     c.index_mut.result.now c.self.invariant c.self.view_is c.number_at-place.ensures some in (
       (

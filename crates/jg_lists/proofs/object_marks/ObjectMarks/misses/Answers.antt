@@ -10,9 +10,11 @@ returns-clause-within g c marked =
     let n = length c.args.wanted.now in
     let turns = c.self.inside.turns.items in
     c.other_turn.ensures
-    ∙ ap (λ (ts : List ℕ). list_any (λ i. get_or c.args.wanted.now i false && not (get_or (take (c.args.first + n - c.args.first) (drop c.args.first ts)) i 0 == c.self.inside.turn))
+    ∙ ap (λ (ts : List ℕ). list_any
+    (λ i. get_or c.args.wanted.now i false && not (get_or (take (c.args.first + n - c.args.first) (drop c.args.first ts)) i 0 == c.self.inside.turn))
     (range_with_len 0 n)) c.deref.ensures.value
-    ∙ any_agree (λ i. get_or c.args.wanted.now i false && not (get_or (take (c.args.first + n - c.args.first) (drop c.args.first turns)) i 0 == c.self.inside.turn))
+    ∙ any_agree (λ i. get_or c.args.wanted.now i false
+    && not (get_or (take (c.args.first + n - c.args.first) (drop c.args.first turns)) i 0 == c.self.inside.turn))
     (λ i. get_or c.args.wanted.now i false && not (get_or c.args.self.now (c.args.first + i) false)) 0 n
     (λ i h. ap (λ b. get_or c.args.wanted.now i false && not b)
     (set_from turns c.self.inside.turn c.args.first n i (omega (arith, h))

@@ -6,11 +6,13 @@ use Rattle.jg_lists.proofs.object_marks.ObjectMarks.start.Goals as goal
 
 pub invariant_of-self : goal.invariant_of-self
 invariant_of-self g c =
-    at_most c.widen.new.turns.items c.next_turn-turn.result (c.widen.ensures.past c.next_turn-turn.result c.next_turn-turn.ensures.above (c.next_turn-turn.ensures.past c.self.invariant))
+    at_most c.widen.new.turns.items c.next_turn-turn.result
+    (c.widen.ensures.past c.next_turn-turn.result c.next_turn-turn.ensures.above (c.next_turn-turn.ensures.past c.self.invariant))
 
 pub invariant_of-self-2 : goal.invariant_of-self-2
 invariant_of-self-2 g c =
-    at_most c.widen.new.turns.items c.next_turn-turn.result (c.widen.ensures.past c.next_turn-turn.result c.next_turn-turn.ensures.above (c.next_turn-turn.ensures.past c.self.invariant))
+    at_most c.widen.new.turns.items c.next_turn-turn.result
+    (c.widen.ensures.past c.next_turn-turn.result c.next_turn-turn.ensures.above (c.next_turn-turn.ensures.past c.self.invariant))
 
 pub returns-in_err-widen-clause-unset : goal.returns-in_err-widen-clause-unset
 returns-in_err-widen-clause-unset g c o =

@@ -10,4 +10,5 @@ invariant_of-self g c = at_most c.next_turn-turn.new.turns.items c.next_turn-tur
 pub returns-clause-unset : goal.returns-clause-unset
 returns-clause-unset g c o =
     unset (but_last c.next_turn-turn.new.turns.items) c.next_turn-turn.result o
-    (All-take (λ t. t < c.next_turn-turn.result) (length c.next_turn-turn.new.turns.items - 1) c.next_turn-turn.new.turns.items (c.next_turn-turn.ensures.past c.self.invariant))
+    (All-take (λ t. t < c.next_turn-turn.result) (length c.next_turn-turn.new.turns.items - 1) c.next_turn-turn.new.turns.items
+    (c.next_turn-turn.ensures.past c.self.invariant))

@@ -14,7 +14,8 @@ returns-clause-ok g c e stands =
 
 pub invariant_of-self : goal.invariant_of-self
 invariant_of-self g c =
-    up_to_alike c.self.inside.linked.keys c.self.inside.linked.keys c.self.inside.greatest.entries c.raise.new.greatest.entries (λ q. refl) c.in_default.ensures.others c.self.invariant
+    up_to_alike c.self.inside.linked.keys c.self.inside.linked.keys c.self.inside.greatest.entries c.raise.new.greatest.entries
+    (λ q. refl) c.in_default.ensures.others c.self.invariant
 
 pub invariant_of-self-in_default-insert : goal.invariant_of-self-in_default-insert
 invariant_of-self-in_default-insert g c =

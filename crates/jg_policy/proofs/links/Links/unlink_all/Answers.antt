@@ -15,5 +15,7 @@ pub returns-clause-stands : goal.returns-clause-stands
 returns-clause-stands g c e stands =
     let links = c.self.inside.linked.keys in
     let before : Stands (rows_of links c.self.inside.warned.keys) e = subst (λ (t : Table). Stands t.rows e) (sym c.self.view_is) stands in
-    after_unlink links c.self.inside.warned.keys e before c.args.class c.drop_class.new.linked.keys (counted_once c.drop_class.new.linked.keys c.drop_class.ensures.once)
-    (gone_all links c.drop_class.new.linked.keys c.self.inside.greatest.entries c.args.class c.in-Some.most (sym c.in-Some.ensures.value) c.drop_class.ensures.dropped c.self.invariant)
+    after_unlink links c.self.inside.warned.keys e before c.args.class c.drop_class.new.linked.keys
+    (counted_once c.drop_class.new.linked.keys c.drop_class.ensures.once)
+    (gone_all links c.drop_class.new.linked.keys c.self.inside.greatest.entries c.args.class c.in-Some.most (sym c.in-Some.ensures.value)
+    c.drop_class.ensures.dropped c.self.invariant)

@@ -8,10 +8,12 @@ returns-then-class-lt-BASE_COUNT c = c.base_name.ensures ∙ sym (name_of_base c
 
 pub returns-in-None : goal.returns-in-None
 returns-in-None c =
-    sym (name_absent c.args.self.now c.self.inside.classes.entries (ap (λ (s : StatedSetup). s.classes) c.self.view_is) c.args.class c.if-class-lt-BASE_COUNT.false c.in-None.ensures.entry)
+    sym (name_absent c.args.self.now c.self.inside.classes.entries (ap (λ (s : StatedSetup). s.classes) c.self.view_is) c.args.class
+    c.if-class-lt-BASE_COUNT.false c.in-None.ensures.entry)
 
 pub returns-in-Some : goal.returns-in-Some
 returns-in-Some c =
     let text : c.as_str.result.now ≡ string_bytes c.in-Some.name.now = search rules in
     ap Some text
-    ∙ sym (name_found c.args.self.now c.self.inside.classes.entries (ap (λ (s : StatedSetup). s.classes) c.self.view_is) c.args.class c.if-class-lt-BASE_COUNT.false _ c.in-Some.ensures.entry)
+    ∙ sym (name_found c.args.self.now c.self.inside.classes.entries (ap (λ (s : StatedSetup). s.classes) c.self.view_is) c.args.class
+    c.if-class-lt-BASE_COUNT.false _ c.in-Some.ensures.entry)

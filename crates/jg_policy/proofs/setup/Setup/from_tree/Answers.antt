@@ -9,7 +9,8 @@ use Rattle.jg_policy.proofs.Trees.{shape_answers, repeat_answers, size_answers, 
 use Rattle.jg_policy.proofs.setup.Setup.from_tree.Goals as goal
 
 pub returns-in-Some-clause-refused : goal.returns-in-Some-clause-refused
-returns-in-Some-clause-refused c _ = first_found (tree_faults (table_view c.args.table.now)) _ (shape_answers (table_view c.args.table.now) _ (sym c.in-Some.ensures))
+returns-in-Some-clause-refused c _ =
+    first_found (tree_faults (table_view c.args.table.now)) _ (shape_answers (table_view c.args.table.now) _ (sym c.in-Some.ensures))
 
 pub returns-in-Ok-true-clause-refused : goal.returns-in-Ok-true-clause-refused
 returns-in-Ok-true-clause-refused c _ =
@@ -21,7 +22,8 @@ pub returns-then-is_too_large-clause-refused : goal.returns-then-is_too_large-cl
 returns-then-is_too_large-clause-refused c _ =
     let once : states_twice (setup_stated (table_view c.args.table.now)).classes ≡ false =
     ap (λ items. states_twice (each_item class_stated items)) (sym c.items_at-stated.ensures) ∙ sym c.in-Ok-false.ensures ∙ c.in-Ok-false.field-0-test in
-    first_found (tree_faults (table_view c.args.table.now)) _ (size_answers (table_view c.args.table.now) (sym c.in_default.ensures) once (sym c.if-is_too_large.ensures))
+    first_found (tree_faults (table_view c.args.table.now)) _
+    (size_answers (table_view c.args.table.now) (sym c.in_default.ensures) once (sym c.if-is_too_large.ensures))
 
 pub settle_classes-requires : goal.settle_classes-requires
 settle_classes-requires c =
@@ -49,4 +51,5 @@ pub returns-clause-clean : goal.returns-clause-clean
 returns-clause-clean c =
     let once : states_twice (setup_stated (table_view c.args.table.now)).classes ≡ false =
     ap (λ items. states_twice (each_item class_stated items)) (sym c.items_at-stated.ensures) ∙ sym c.in-Ok-false.ensures ∙ c.in-Ok-false.field-0-test in
-    none_found (tree_faults (table_view c.args.table.now)) (clean_answers (table_view c.args.table.now) (sym c.in_default.ensures) once (sym c.if-is_too_large.ensures))
+    none_found (tree_faults (table_view c.args.table.now))
+    (clean_answers (table_view c.args.table.now) (sym c.in_default.ensures) once (sym c.if-is_too_large.ensures))

@@ -9,11 +9,13 @@ use Rattle.jg_policy.proofs.setup.Setup.native_named.Goals as goal
 pub member_named-requires : goal.member_named-requires
 member_named-requires c =
     rw c.as_slice.ensures.keys
-    (few_members c.self.inside.grants.items c.self.inside.classes.entries c.self.invariant.fit.sized _ (c.in-Some.field-0-0.now, c.in-Some.found.now) (sym c.in-Some.ensures.entry)).natives
+    (few_members c.self.inside.grants.items c.self.inside.classes.entries c.self.invariant.fit.sized _ (c.in-Some.field-0-0.now, c.in-Some.found.now)
+    (sym c.in-Some.ensures.entry)).natives
 
 pub returns-in-None : goal.returns-in-None
 returns-in-None c =
-    rw (class_absent c.args.self.now c.self.inside.classes.entries (ap (λ (s : StatedSetup). s.classes) c.self.view_is) c.args.class c.if-class-lt-BASE_COUNT.false c.in-None.ensures.entry)
+    rw (class_absent c.args.self.now c.self.inside.classes.entries (ap (λ (s : StatedSetup). s.classes) c.self.view_is) c.args.class
+    c.if-class-lt-BASE_COUNT.false c.in-None.ensures.entry)
 
 pub returns-in-Some : goal.returns-in-Some
 returns-in-Some c =

@@ -13,5 +13,6 @@ returns-in-Ok-table_to_string-clause-stated c =
     let tree : table_view c.in-Ok.table ≡ setup_tree s = c.in-Ok.ensures ∙ rw c.as_slice.ensures.value (ap setup_tree c.self.view_is) in
     let back : parse_document (string_bytes c.in-Ok-table_to_string.text) ≡ Some (setup_tree s) =
     c.in-Ok-table_to_string.ensures.reads_back (rw tree (setup_flat s)) ∙ ap (λ t. Some t) tree in
-    stated_back s c.self.inside.grants.items c.self.inside.classes.entries (ap (λ (t : StatedSetup). t.grants) c.self.view_is) (ap (λ (t : StatedSetup). t.classes) c.self.view_is) c.self.invariant.fit
+    stated_back s c.self.inside.grants.items c.self.inside.classes.entries (ap (λ (t : StatedSetup). t.grants) c.self.view_is)
+    (ap (λ (t : StatedSetup). t.classes) c.self.view_is) c.self.invariant.fit
     (string_bytes c.in-Ok-table_to_string.text) back

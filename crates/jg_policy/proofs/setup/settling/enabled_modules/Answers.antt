@@ -14,4 +14,5 @@ loop-grant-preserved c name =
     let below : c.loop-grant.grant-index < length c.args.grants.now = omega arith in
     c.in_ok-add_granted.ensures name
     ∙ rw (c.loop-grant.invariant name)
-    (granted_more (bytes_eq name (codes "java.base")) name c.args.operation c.args.grants.now c.loop-grant.grant-index c.grant-item.result below c.grant-item.is)
+    (granted_more (bytes_eq name (codes "java.base")) name c.args.operation c.args.grants.now c.loop-grant.grant-index c.grant-item.result below
+    c.grant-item.is)

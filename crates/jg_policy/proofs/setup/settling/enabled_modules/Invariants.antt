@@ -1,7 +1,7 @@
 use Rattle.std.proofs.Common.{◌≡◌, ℕ, ◌||◌, List, take, map, codes}
 use Rattle.std.specs.HashSet.{contains_by}
 use Rattle.std.specs.Str.{bytes_eq}
-use Rattle.jg_policy.specs.Access.{is_granted}
+use Rattle.jg_policy.specs.NativeAccess.{is_granted}
 use Rattle.jg_policy.specs.Kept.{grant_view}
 use Rattle.jg_policy.proofs.setup.settling.enabled_modules.Given as goal
 

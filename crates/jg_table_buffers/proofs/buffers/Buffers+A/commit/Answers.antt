@@ -24,9 +24,11 @@ pub returns-in-None-clause-stands : goal.returns-in-None-clause-stands
 returns-in-None-clause-stands g c = λ e stands. returns-in-None-clause-row g c ∙ contents_law _ e c.args.buf.maker.0 c.args.buf.n stands
 
 pub returns-in-Some-clause-length : goal.returns-in-Some-clause-length
-returns-in-Some-clause-length g c = ap length (returns-in-Some-clause-row g c) ∙ sym (long_law listed c.self.inside.copies.entries (named c.self.inside.pins) _ c.args.buf.maker.0 c.args.buf.n
+returns-in-Some-clause-length g c =
+    ap length (returns-in-Some-clause-row g c) ∙ sym (long_law listed c.self.inside.copies.entries (named c.self.inside.pins) _ c.args.buf.maker.0 c.args.buf.n
     c.self.view_is)
 
 pub returns-in-None-clause-length : goal.returns-in-None-clause-length
-returns-in-None-clause-length g c = ap length (returns-in-None-clause-row g c) ∙ sym (long_law listed c.self.inside.copies.entries (named c.self.inside.pins) _ c.args.buf.maker.0 c.args.buf.n
+returns-in-None-clause-length g c =
+    ap length (returns-in-None-clause-row g c) ∙ sym (long_law listed c.self.inside.copies.entries (named c.self.inside.pins) _ c.args.buf.maker.0 c.args.buf.n
     c.self.view_is)

@@ -14,18 +14,22 @@ pub returns-clause-stands : goal.returns-clause-stands
 returns-clause-stands g c = λ e stands.
     let was : Stands (seen listed c.self.inside.copies.entries (named c.self.inside.pins)) e = reopened _ _ e c.self.view_is stands in
     let P : Rows → Type 0 = λ r. c.args.index < copy_length (row_of c.args.buf.maker.0 c.args.buf.n r) in
-    let within : c.args.index < copy_length (row_of c.args.buf.maker.0 c.args.buf.n (seen listed c.self.inside.copies.entries (named c.self.inside.pins))) = subst P (sym c.self.view_is) c.requires in
+    let within : c.args.index < copy_length (row_of c.args.buf.maker.0 c.args.buf.n (seen listed c.self.inside.copies.entries (named c.self.inside.pins))) =
+    subst P (sym c.self.view_is) c.requires in
     let plain : to_z w64 (of_z w64 c.args.value) ≡ c.args.value = search rules in
-    write_law listed c.self.inside.copies.entries c.set_item.new.map.entries (named c.self.inside.pins) e c.args.buf.maker.0 c.args.buf.n c.args.index c.args.value was within c.set_item.ensures.unique
+    write_law listed c.self.inside.copies.entries c.set_item.new.map.entries (named c.self.inside.pins) e c.args.buf.maker.0 c.args.buf.n c.args.index
+    c.args.value was within c.set_item.ensures.unique
     (λ q. rw plain at (c.set_item.ensures.set q))
 
 -- the numbers stay
 pub returns-clause-numbers : goal.returns-clause-numbers
 returns-clause-numbers g c = λ k i above.
-    written_numbers listed c.self.inside.copies.entries c.set_item.new.map.entries (named c.self.inside.pins) c.args.buf.maker.0 c.args.buf.n c.args.index _ c.set_item.ensures.set k i
+    written_numbers listed c.self.inside.copies.entries c.set_item.new.map.entries (named c.self.inside.pins) c.args.buf.maker.0 c.args.buf.n c.args.index _
+    c.set_item.ensures.set k i
     (above_in _ _ k i c.self.view_is above)
 
 -- and what is known of each buffer
 pub returns-clause-buffers : goal.returns-clause-buffers
 returns-clause-buffers g c =
-    written_buffers listed c.self.inside.copies.entries c.set_item.new.map.entries (named c.self.inside.pins) _ c.args.buf.maker.0 c.args.buf.n c.args.index _ c.self.view_is c.set_item.ensures.set
+    written_buffers listed c.self.inside.copies.entries c.set_item.new.map.entries (named c.self.inside.pins) _ c.args.buf.maker.0 c.args.buf.n c.args.index _
+    c.self.view_is c.set_item.ensures.set

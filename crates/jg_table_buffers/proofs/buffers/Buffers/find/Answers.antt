@@ -8,7 +8,12 @@ use Rattle.jg_table_buffers.proofs.buffers.Buffers.find.Goals as goal
 pub returns-in-Some-clause-row : goal.returns-in-Some-clause-row
 returns-in-Some-clause-row g c =
     let found : lookup (same_name (c.args.buf.maker.0, c.args.buf.n)) c.self.inside.copies.entries ≡ Some c.in-Some.copy.now = sym c.in-Some.ensures in
-    rw (row_is g.I.Items.items_of c.self.inside.copies.entries (named c.self.inside.pins) _ c.args.buf.maker.0 c.args.buf.n c.self.view_is, found, c.family_of_copy.ensures, c.count.ensures) refl
+    rw (
+      row_is g.I.Items.items_of c.self.inside.copies.entries (named c.self.inside.pins) _ c.args.buf.maker.0 c.args.buf.n c.self.view_is,
+      found,
+      c.family_of_copy.ensures,
+      c.count.ensures,
+    ) refl
 
 pub returns-in-Some-clause-stands : goal.returns-in-Some-clause-stands
 returns-in-Some-clause-stands g c = λ e stands. returns-in-Some-clause-row g c ∙ info_law _ e c.args.buf.maker.0 c.args.buf.n stands
@@ -26,7 +31,12 @@ pub returns-in-Some-find-clause-row : goal.returns-in-Some-find-clause-row
 returns-in-Some-find-clause-row g c =
     let copy : lookup (same_name (c.args.buf.maker.0, c.args.buf.n)) c.self.inside.copies.entries ≡ None = sym c.in_default.ensures in
     let pin : lookup (same_name (c.args.buf.maker.0, c.args.buf.n)) (named c.self.inside.pins) ≡ Some c.in-Some-find.pin.now = sym c.in-Some-find.ensures in
-    rw (row_is g.I.Items.items_of c.self.inside.copies.entries (named c.self.inside.pins) _ c.args.buf.maker.0 c.args.buf.n c.self.view_is, copy, pin, c.family_of_pin.ensures) refl
+    rw (
+      row_is g.I.Items.items_of c.self.inside.copies.entries (named c.self.inside.pins) _ c.args.buf.maker.0 c.args.buf.n c.self.view_is,
+      copy,
+      pin,
+      c.family_of_pin.ensures,
+    ) refl
 
 pub returns-in-Some-find-clause-stands : goal.returns-in-Some-find-clause-stands
 returns-in-Some-find-clause-stands g c = λ e stands. returns-in-Some-find-clause-row g c ∙ info_law _ e c.args.buf.maker.0 c.args.buf.n stands

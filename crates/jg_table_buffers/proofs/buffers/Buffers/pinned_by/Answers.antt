@@ -11,7 +11,8 @@ use Rattle.jg_table_buffers.proofs.buffers.Buffers.pinned_by.Goals as goal
 
 pub returns : goal.returns
 returns g c = λ e stands.
-    let was : Stands (record { lent = map (copy_seen g.I.Items.items_of) c.self.inside.copies.entries ++ map pin_seen (named c.self.inside.pins) }) e = reopened _ _ e c.self.view_is stands in
+    let was : Stands (record { lent = map (copy_seen g.I.Items.items_of) c.self.inside.copies.entries ++ map pin_seen (named c.self.inside.pins) }) e =
+    reopened _ _ e c.self.view_is stands in
     rw (c.count_of.ensures, c.via_key.ensures, c.self.invariant.0.by_via c.args.reference)
     (some_counted (λ f. same_ref f.1.via c.args.reference) (named c.self.inside.pins)
     ∙ pin_law g.I.Items.items_of (λ b. same_ref b.via c.args.reference) (λ b items. refl) c.self.inside.copies.entries (named c.self.inside.pins) e was)

@@ -13,6 +13,7 @@ returns g c e stands =
     let fs : List (Name × Pinned) = named c.self.inside.pins in
     let names : List BufId = map (λ f. key_name f.0) (filter (λ (f : Name × Pinned). f.0.0 == c.args.tid.0) fs) in
     let listed : c.list_pins_of.new.buffers.items ≡ names = c.in_ok-list_pins_of.ensures ∙ ap (λ (xs : List BufId). xs ++ names) c.new-buffers.ensures.items in
-    sorted_pins g.I.Items.items_of c.self.inside.copies.entries fs e (subst (λ (r : Rows). Stands r e) (sym c.self.view_is) stands) (λ b. b.maker == c.args.tid.0) (λ b items. refl)
+    sorted_pins g.I.Items.items_of c.self.inside.copies.entries fs e (subst (λ (r : Rows). Stands r e) (sym c.self.view_is) stands)
+    (λ b. b.maker == c.args.tid.0) (λ b items. refl)
     (λ f. f.0.0 == c.args.tid.0) (λ f. refl)
     c.list_pins_of.new.buffers.items c.sort_names.new.buffers.items listed c.sort_names.ensures.same c.sort_names.ensures.ascends

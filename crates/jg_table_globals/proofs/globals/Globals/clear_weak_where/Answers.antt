@@ -12,12 +12,14 @@ use Rattle.jg_table_globals.proofs.globals.Globals.clear_weak_where.Goals as goa
 -- the objects that meet the test are cleared
 pub returns-clause-stands : goal.returns-clause-stands
 returns-clause-stands g c = λ e objects stands listed.
-    let was : Stands (record { strong = map strong_seen (named c.self.inside.strong); weak = map weak_seen (named c.self.inside.weak) }) e = reopened _ _ e c.self.view_is stands in
+    let was : Stands (record { strong = map strong_seen (named c.self.inside.strong); weak = map weak_seen (named c.self.inside.weak) }) e =
+    reopened _ _ e c.self.view_is stands in
     clear_law _ _ (named c.self.inside.weak) (named c.clear_rows.new.rows) e objects refl c.clear_rows.ensures listed was
 
 -- as many are in being
 pub invariant_of-self : goal.invariant_of-self
-invariant_of-self g c = c.self.invariant ∙ ap (λ n. length (named c.self.inside.strong) + n) (sym (length-changed _ (named c.self.inside.weak) (named c.clear_rows.new.rows) c.clear_rows.ensures))
+invariant_of-self g c = c.self.invariant
+    ∙ ap (λ n. length (named c.self.inside.strong) + n) (sym (length-changed _ (named c.self.inside.weak) (named c.clear_rows.new.rows) c.clear_rows.ensures))
 
 -- no other number is there
 pub returns-clause-numbers : goal.returns-clause-numbers

@@ -16,11 +16,13 @@ add-requires g c =
 -- the reference is added
 pub returns-clause-ok : goal.returns-clause-ok
 returns-clause-ok g c = λ e stands.
-    let was : Stands (record { strong = map strong_seen (named c.self.inside.strong); weak = map weak_seen (named c.self.inside.weak) }) e = reopened _ _ e c.self.view_is stands in
+    let was : Stands (record { strong = map strong_seen (named c.self.inside.strong); weak = map weak_seen (named c.self.inside.weak) }) e =
+    reopened _ _ e c.self.view_is stands in
     let above = above_in _ _ c.args.maker.0 c.args.n c.self.view_is c.requires in
     make_strong_law _ e c.args.maker.0 c.args.n c.args.object (named c.self.inside.strong) (named c.add.new.tables) refl c.in_ok-add.ensures.ok above was
 
 -- no other number is there
 pub returns-clause-numbers : goal.returns-clause-numbers
 returns-clause-numbers g c = λ k i above below.
-    strong_number _ (c.args.maker.0, c.args.n) c.args.object (named c.self.inside.strong) (named c.add.new.tables) k i refl c.in_ok-add.ensures.ok (above_in _ _ k i c.self.view_is above) below
+    strong_number _ (c.args.maker.0, c.args.n) c.args.object (named c.self.inside.strong) (named c.add.new.tables) k i refl c.in_ok-add.ensures.ok
+    (above_in _ _ k i c.self.view_is above) below

@@ -8,5 +8,6 @@ use Rattle.jg_table_globals.proofs.globals.Globals.mark_held.Goals as goal
 
 pub returns : goal.returns
 returns g c = λ e stands o.
-    let was : Stands (record { strong = map strong_seen (named c.self.inside.strong); weak = map weak_seen (named c.self.inside.weak) }) e = reopened _ _ e c.self.view_is stands in
+    let was : Stands (record { strong = map strong_seen (named c.self.inside.strong); weak = map weak_seen (named c.self.inside.weak) }) e =
+    reopened _ _ e c.self.view_is stands in
     rw (c.mark_objects.ensures o, holds_law _ e (named c.self.inside.strong) o refl was) refl

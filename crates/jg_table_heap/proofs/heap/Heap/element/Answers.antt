@@ -26,7 +26,8 @@ returns-clause-history g c e s =
     kept_body c.self.inside.objects.items c.self.inside.there.items c.args.self.now.objects c.args.object.0
     c.index.result.now c.self.invariant.0.same (ap (λ (r : Rows). r.objects) c.self.view_is) c.requires.made
     c.index.ensures in
-    value_stands c.args.self.now e c.args.object.0 c.args.index c.slot.result s c.requires.made (ap (λ (r : Row). slice_get r.slots c.args.index) (sym row) ∙ c.slot.ensures.read)
+    value_stands c.args.self.now e c.args.object.0 c.args.index c.slot.result s c.requires.made
+    (ap (λ (r : Row). slice_get r.slots c.args.index) (sym row) ∙ c.slot.ensures.read)
 
 pub returns-clause-sort : goal.returns-clause-sort
 returns-clause-sort g c =
@@ -43,4 +44,5 @@ returns-clause-rows g c =
     kept_body c.self.inside.objects.items c.self.inside.there.items c.args.self.now.objects c.args.object.0
     c.index.result.now c.self.invariant.0.same (ap (λ (r : Rows). r.objects) c.self.view_is) c.requires.made
     c.index.ensures in
-    slot_there (row_in c.args.self.now.objects c.args.object.0) c.args.index c.slot.result (ap (λ (r : Row). slice_get r.slots c.args.index) (sym row) ∙ c.slot.ensures.read)
+    slot_there (row_in c.args.self.now.objects c.args.object.0) c.args.index c.slot.result
+    (ap (λ (r : Row). slice_get r.slots c.args.index) (sym row) ∙ c.slot.ensures.read)

@@ -32,15 +32,18 @@ returns-clause-marks g c e roots stands was =
     (marks_length _ _ _ c.mark_classes.ensures) (marks_length _ _ _ c.mark_pointed.ensures)
     (mark_is _ _ _ c.mark_classes.ensures)
     (λ o h. mark_is _ _ _ c.mark_pointed.ensures o h
-    ∙ ap (λ (bs : List (Body g.row.A.Denot)). get_or c.mark_classes.new.marks o false || list_any (slot_of_row_holds (map row_of_body bs) o) c.deref-2.result.now) c.deref.ensures.value
-    ∙ ap (λ b. get_or c.mark_classes.new.marks o false || b) (any_slot_of_object c.self.inside.objects.items c.self.inside.there.items o c.deref-2.result.now c.self.invariant.0.same))
+    ∙ ap (λ (bs : List (Body g.row.A.Denot)). get_or c.mark_classes.new.marks o false
+    || list_any (slot_of_row_holds (map row_of_body bs) o) c.deref-2.result.now) c.deref.ensures.value
+    ∙ ap (λ b. get_or c.mark_classes.new.marks o false || b)
+    (any_slot_of_object c.self.inside.objects.items c.self.inside.there.items o c.deref-2.result.now c.self.invariant.0.same))
     was
 
 pub list_unheld-requires : goal.list_unheld-requires
 list_unheld-requires g c =
     let count : length c.self.inside.there.items ≡ length c.deref-3.result.now = ap (λ (bs : List Bool). length bs) (sym c.deref-3.ensures.value) in
     record {
-      whole = subst (λ (bs : List ℕ). AreWhole bs (length c.deref-3.result.now)) (sym c.deref-4.ensures.value) (subst (AreWhole c.self.inside.blocks.items) count c.self.invariant.0.keeps.whole);
+      whole = subst (λ (bs : List ℕ). AreWhole bs (length c.deref-3.result.now)) (sym c.deref-4.ensures.value)
+          (subst (AreWhole c.self.inside.blocks.items) count c.self.invariant.0.keeps.whole);
       loose = omega (arith, c.self.invariant.0.keeps.order, count);
     }
 

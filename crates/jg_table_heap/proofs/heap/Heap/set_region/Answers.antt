@@ -36,7 +36,8 @@ returns-clause-stands g c e s =
     rows_overwritten c.self.inside.objects.items c.self.inside.there.items c.args.self.now c.self.inside.class_count
     c.args.object.0 c.index_mut.result.now c.set_region.new.self c.self.invariant.0.same view c.requires.made
     c.index_mut.ensures.value
-    c.set_region.ensures.class c.set_region.ensures.units e c.args.start c.args.values.now (ap (λ (r : Rows). r.classes) c.self.view_is) s (omega arith) c.set_region.ensures.slots
+    c.set_region.ensures.class c.set_region.ensures.units e c.args.start c.args.values.now (ap (λ (r : Rows). r.classes) c.self.view_is) s
+    (omega arith) c.set_region.ensures.slots
 
 pub returns-clause-shapes : goal.returns-clause-shapes
 returns-clause-shapes g c =

@@ -36,7 +36,8 @@ invariant_of-self g c =
     let points = c.retain_marked.new.numbers.items in
     let seen : c.deref.result.now ≡ flags = c.deref.ensures.value ∙ sym flagged in (
       subst (λ (bs : List Bool). Stored bodies bs blocks loose points) flagged
-          (stored_swept bodies there marks unheld c.self.invariant.0.same listed flags count goes c.self.inside.blocks.items blocks loose c.self.inside.pointing.items points c.self.invariant.0
+          (stored_swept bodies there marks unheld c.self.invariant.0.same listed flags count goes c.self.inside.blocks.items blocks loose
+          c.self.inside.pointing.items points c.self.invariant.0
           (subst (λ (bs : List Bool). filter (λ o. get_or bs o false) (numbers_in blocks loose (length bs))
           ≡ filter (λ o. get_or bs o false) (numbers_in c.self.inside.blocks.items loose (length bs))) seen
           (c.close_up_if-self-inside.ensures.there loose))
@@ -88,7 +89,8 @@ returns-clause-shapes g c =
     λ o. c.let_all_go.ensures o ∙ ap (λ (bs : List Bool). get_or bs o false && not (list_any (λ p. eqb p o) unheld)) c.deref_mut.ensures.value in
     let all : ℕ → Bool = λ o. list_any (λ p. eqb p o) unheld in
     let view = ap (λ (r : Rows). r.objects) c.self.view_is in
-    subst (λ (bs : List Bool). KeepsShapes c.args.self.now (record { classes = c.self.inside.class_count; objects = map row_of (objects_of bodies bs) })) flagged
+    subst (λ (bs : List Bool). KeepsShapes c.args.self.now (record { classes = c.self.inside.class_count; objects = map row_of (objects_of bodies bs) }))
+    flagged
     (shapes_swept c.args.self.now c.self.inside.class_count (map row_of (objects_of bodies flags)) all
     (length-map (objects_of bodies flags) row_of ∙ length-objects_of bodies flags (count ∙ c.self.invariant.0.same)
     ∙ sym (length-map (objects_of bodies there) row_of ∙ length-objects_of bodies there c.self.invariant.0.same) ∙ ap (λ (rs : List Row). length rs) view)

@@ -1,19 +1,11 @@
-use Rattle.std.proofs.Common.{ℕ, ◌≡◌, refl, List, [], ◌∷◌, map, pos, Option, Some, None, Result, Ok, Err, Vec}
+use Rattle.std.proofs.Common.{ℕ, List, map, pos, Option, Some, None, Result, Ok, Err, Vec}
 use Rattle.std.specs.Prelude.{IfOk, IfSome}
 use Rattle.jg_table_heap.specs.Spelling.{IsSpelt, IsSpeltInItems}
+use Rattle.jg_table_heap.proofs.Bytes.{same_bytes}
 use Rattle.jg_table_heap.proofs.mutf8.read.from_mutf8.Goals as goal
 
-same_bytes : (xs ys : List ℕ) → map pos xs ≡ map pos ys → xs ≡ ys
-same_bytes [] [] h = refl
-same_bytes [] (y ∷ ys) h = cc
-same_bytes (x ∷ xs) [] h = cc
-same_bytes (x ∷ xs) (y ∷ ys) h =
-    let first : x ≡ y = cc in
-    let later : map pos xs ≡ map pos ys = cc in
-    let rest : xs ≡ ys = same_bytes xs ys later in
-    cc
-
-bytes_found : {A E : Type 0} (bytes : List ℕ) (r : Result (Option (Vec ℕ A)) E) → IfOk r (λ found. IfSome found (λ units. IsSpeltInItems units.items (map pos bytes)))
+bytes_found : {A E : Type 0} (bytes : List ℕ) (r : Result (Option (Vec ℕ A)) E)
+    → IfOk r (λ found. IfSome found (λ units. IsSpeltInItems units.items (map pos bytes)))
     → IfOk r (λ found. IfSome found (λ units. IsSpelt units.items bytes))
 bytes_found bytes (Err e) h = tt
 bytes_found bytes (Ok None) h = tt

@@ -6,8 +6,10 @@ use Rattle.jg_table_heap.proofs.mutf8.read.spells.Given as goal
 abbrev pub invariant-loop-at : goal.invariant-loop-at
 invariant-loop-at g l = record {
   within : l.at ≤ length l.items;
-  front : (units : List ℕ) × AreUnits units × ((map g.I.MaybeByte.number l.items) ≡ map pos (flat_map spelling units) ++ drop l.at (map g.I.MaybeByte.number l.items));
-  rest : (units : List ℕ) → IsSpeltInItems units (map g.I.MaybeByte.number l.items) → (tail : List ℕ) × IsSpeltInItems tail (drop l.at (map g.I.MaybeByte.number l.items));
+  front : (units : List ℕ) × AreUnits units
+      × ((map g.I.MaybeByte.number l.items) ≡ map pos (flat_map spelling units) ++ drop l.at (map g.I.MaybeByte.number l.items));
+  rest : (units : List ℕ) → IsSpeltInItems units (map g.I.MaybeByte.number l.items)
+      → (tail : List ℕ) × IsSpeltInItems tail (drop l.at (map g.I.MaybeByte.number l.items));
 }
 
 abbrev pub decreases-loop-at : goal.decreases-loop-at

@@ -11,10 +11,18 @@ loop-at-preserved g c =
     let found = c.in-Some.ensures.found in
     record {
       within = c.in-Some.ensures.len.1;
-      short = omega (arith, c.in-Some.ensures.len.0, before.short, ap (λ (us : List ℕ). length us) c.in_ok-push-in-Some.ensures.items, length-append c.loop-at.units.items (c.in-Some.unit ∷ []));
+      short = omega (
+        arith,
+        c.in-Some.ensures.len.0,
+        before.short,
+        ap (λ (us : List ℕ). length us) c.in_ok-push-in-Some.ensures.items,
+        length-append
+            c.loop-at.units.items (c.in-Some.unit ∷ []),
+      );
       units = rw c.in_ok-push-in-Some.ensures.items (AreUnits-push c.loop-at.units.items c.in-Some.unit before.units found.0);
       front = rw c.in_ok-push-in-Some.ensures.items (front_more items c.loop-at.units.items c.loop-at.at c.in-Some.unit c.in-Some.len before.front found.1);
-      rest = λ units s. let left = before.rest units s in rest_more items c.loop-at.at c.in-Some.unit c.in-Some.len inside found.1 c.in-Some.ensures.only left.0 left.1;
+      rest = λ units s. let left = before.rest units s
+          in rest_more items c.loop-at.at c.in-Some.unit c.in-Some.len inside found.1 c.in-Some.ensures.only left.0 left.1;
     }
 
 pub returns-in-None-clause-none : goal.returns-in-None-clause-none

@@ -9,7 +9,8 @@ invariant-loop-at g l = record {
   short : length l.units.items ≤ l.at;
   units : AreUnits l.units.items;
   front : (map g.I.MaybeByte.number l.items) ≡ map pos (flat_map spelling l.units.items) ++ drop l.at (map g.I.MaybeByte.number l.items);
-  rest : (units : List ℕ) → IsSpeltInItems units (map g.I.MaybeByte.number l.items) → (tail : List ℕ) × IsSpeltInItems tail (drop l.at (map g.I.MaybeByte.number l.items));
+  rest : (units : List ℕ) → IsSpeltInItems units (map g.I.MaybeByte.number l.items)
+      → (tail : List ℕ) × IsSpeltInItems tail (drop l.at (map g.I.MaybeByte.number l.items));
 }
 
 abbrev pub decreases-loop-at : goal.decreases-loop-at

@@ -12,8 +12,10 @@ pub returns-clause-room : goal.returns-clause-room
 returns-clause-room g c = room_up c.self.inside.stacks c.delete_at-ended.new.stacks c.args.self.now c.args.tid.0 c.self.view_is c.delete_at-ended.ensures.room
 
 pub invariant_of-self : goal.invariant_of-self
-invariant_of-self g c = tallied_less c.self.inside.stacks c.delete_at-ended.new.stacks c.self.inside.live c.delete_at-ended.result c.self.invariant c.delete_at-ended.ensures.once
+invariant_of-self g c = tallied_less c.self.inside.stacks c.delete_at-ended.new.stacks c.self.inside.live c.delete_at-ended.result c.self.invariant
+    c.delete_at-ended.ensures.once
     c.delete_at-ended.ensures.counted
 
 pub overflow_sub-self : goal.overflow_sub-self
-overflow_sub-self g c = ended_within c.self.inside.stacks c.delete_at-ended.new.stacks c.self.inside.live c.delete_at-ended.result c.self.invariant c.delete_at-ended.ensures.counted
+overflow_sub-self g c = ended_within c.self.inside.stacks c.delete_at-ended.new.stacks c.self.inside.live c.delete_at-ended.result c.self.invariant
+    c.delete_at-ended.ensures.counted

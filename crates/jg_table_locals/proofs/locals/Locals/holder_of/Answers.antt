@@ -7,11 +7,13 @@ use Rattle.jg_table_locals.proofs.locals.Locals.holder_of.Goals as goal
 
 pub returns-in-None-clause-held : goal.returns-in-None-clause-held
 returns-in-None-clause-held g c e stands =
-    ap is_some c.in-None.ensures ∙ found_law c.self.inside.stacks e c.args.object.0 (reopened (table_seen c.self.inside.stacks) c.args.self.now e c.self.view_is stands)
+    ap is_some c.in-None.ensures
+    ∙ found_law c.self.inside.stacks e c.args.object.0 (reopened (table_seen c.self.inside.stacks) c.args.self.now e c.self.view_is stands)
 
 pub returns-in-Some-clause-held : goal.returns-in-Some-clause-held
 returns-in-Some-clause-held g c e stands =
-    ap is_some c.in-Some.ensures ∙ found_law c.self.inside.stacks e c.args.object.0 (reopened (table_seen c.self.inside.stacks) c.args.self.now e c.self.view_is stands)
+    ap is_some c.in-Some.ensures
+    ∙ found_law c.self.inside.stacks e c.args.object.0 (reopened (table_seen c.self.inside.stacks) c.args.self.now e c.self.view_is stands)
 
 pub returns-in-Some-clause-names : goal.returns-in-Some-clause-names
 returns-in-Some-clause-names g c e stands =

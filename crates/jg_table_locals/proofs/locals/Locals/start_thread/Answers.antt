@@ -7,7 +7,8 @@ use Rattle.jg_table_locals.proofs.Threads.{start_step, none_top, next_first, has
 use Rattle.jg_table_locals.proofs.locals.Locals.start_thread.Goals as goal
 
 pub returns-in_err-add_stack-clause-room : goal.returns-in_err-add_stack-clause-room
-returns-in_err-add_stack-clause-room g c = λ some. absurd (ok_not_err c.add_stack.result _ (c.add_stack.ensures.had (has_stack c.self.inside.stacks c.args.self.now c.args.tid.0 c.self.view_is some))
+returns-in_err-add_stack-clause-room g c =
+    λ some. absurd (ok_not_err c.add_stack.result _ (c.add_stack.ensures.had (has_stack c.self.inside.stacks c.args.self.now c.args.tid.0 c.self.view_is some))
     c.in_err-add_stack.was)
 
 pub open_at-requires-clause-next : goal.open_at-requires-clause-next
@@ -25,13 +26,17 @@ returns-clause-ok g c = on_ok_weaker c.open_at.result (λ changes. λ e stands.
     (restand (rows_seen c.add_stack.new.stacks) c.args.self.now.rows e same stands)) c.open_at.ensures.ok
 
 pub returns-clause-room : goal.returns-clause-room
-returns-clause-room g c = λ some. c.open_at.ensures.has_room (starts_from c.self.inside.stacks c.add_stack.new.stacks c.args.self.now c.args.tid.0 c.self.view_is c.add_stack.ensures.starts some)
+returns-clause-room g c =
+    λ some. c.open_at.ensures.has_room
+    (starts_from c.self.inside.stacks c.add_stack.new.stacks c.args.self.now c.args.tid.0 c.self.view_is c.add_stack.ensures.starts some)
 
 pub invariant_of-self : goal.invariant_of-self
 invariant_of-self g c =
-    tallied c.self.inside.stacks c.add_stack.new.stacks c.self.inside.live c.self.inside.live 0 0 c.self.invariant c.add_stack.ensures.once c.add_stack.ensures.counted refl
+    tallied c.self.inside.stacks c.add_stack.new.stacks c.self.inside.live c.self.inside.live 0 0 c.self.invariant c.add_stack.ensures.once
+    c.add_stack.ensures.counted refl
 
 pub invariant_of-self-2 : goal.invariant_of-self-2
 invariant_of-self-2 g c =
-    let had = tallied c.self.inside.stacks c.add_stack.new.stacks c.self.inside.live c.self.inside.live 0 0 c.self.invariant c.add_stack.ensures.once c.add_stack.ensures.counted refl in
+    let had = tallied c.self.inside.stacks c.add_stack.new.stacks c.self.inside.live c.self.inside.live 0 0 c.self.invariant c.add_stack.ensures.once
+    c.add_stack.ensures.counted refl in
     tallied c.add_stack.new.stacks c.open_at.new.stacks c.self.inside.live c.self.inside.live 0 0 had c.open_at.ensures.once c.open_at.ensures.counted refl

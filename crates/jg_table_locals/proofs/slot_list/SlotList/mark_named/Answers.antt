@@ -10,6 +10,7 @@ pub returns : goal.returns
 returns g c =
     let old = g.M.Marking.mark_of c.args.marks.now in
     let new = g.M.Marking.mark_of c.set_all.new.self in
-    let marked = subst (λ (objects : List ℕ). Marks (λ o. list_any (λ x. x == o) objects) old new) (c.deref.ensures.value ∙ c.self.invariant) c.set_all.ensures.set in
+    let marked = subst (λ (objects : List ℕ). Marks (λ o. list_any (λ x. x == o) objects) old new) (c.deref.ensures.value ∙ c.self.invariant)
+    c.set_all.ensures.set in
     subst (λ (r : SlotsSeen). Marks (λ o. list_any (λ s. s.object == o) (filter is_live r.items)) old new) c.self.view_is
     (marked_live c.self.inside.slots.items old new c.set_all.ensures.none marked)

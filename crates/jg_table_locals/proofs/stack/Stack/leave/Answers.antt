@@ -12,7 +12,8 @@ pub invariant_of-self : goal.invariant_of-self
 invariant_of-self g c =
     let frames = map frame_of c.self.inside.frames.items in
     let sound = c.close_up_if-dead.ensures.sound frames (c.cut-ended.ensures.sound frames c.self.invariant.0.kept.sound) in (
-      cut_stacked c.self.inside.slots.items c.cut-ended.new.slots.items c.close_up_if-dead.new.slots.items c.self.inside.frames.items _ (base c.args.top) c.self.invariant.0
+      cut_stacked c.self.inside.slots.items c.cut-ended.new.slots.items c.close_up_if-dead.new.slots.items c.self.inside.frames.items _
+          (base c.args.top) c.self.invariant.0
           c.close_from.ensures.kept c.cut-ended.ensures.live c.close_up_if-dead.ensures.live sound
           (c.close_up_if-dead.ensures.below (base c.args.top) c.cut-ended.ensures.below) (c.close_up_if-dead.ensures.ends c.cut-ended.ensures.ends),
       c.close_up_if-dead.ensures.dead (omega (arith, c.cut-ended.ensures.dead, c.self.invariant.1)),
@@ -23,13 +24,15 @@ pub overflow_sub-self : goal.overflow_sub-self
 overflow_sub-self g c = omega (arith, c.self.invariant.2, c.cut-ended.ensures.counted)
 
 pub returns-clause-ended : goal.returns-clause-ended
-returns-clause-ended g c = omega (arith, ap (λ (r : StackRows). length r.locals) c.self.view_is, c.cut-ended.ensures.counted, ap length c.close_up_if-dead.ensures.live)
+returns-clause-ended g c =
+    omega (arith, ap (λ (r : StackRows). length r.locals) c.self.view_is, c.cut-ended.ensures.counted, ap length c.close_up_if-dead.ensures.live)
 
 pub returns-clause-locals : goal.returns-clause-locals
 returns-clause-locals g c =
     let frames = map frame_of c.self.inside.frames.items in
     let is : last frames ≡ Some c.args.top = ap (λ (r : StackRows). last r.frames) c.self.view_is ∙ c.requires in
-    c.close_up_if-dead.ensures.live ∙ (c.cut-ended.ensures.live ∙ (left_slots c.self.inside.slots.items frames c.args.top c.self.invariant.0.kept.sound c.self.invariant.0.kept.opened is
+    c.close_up_if-dead.ensures.live
+    ∙ (c.cut-ended.ensures.live ∙ (left_slots c.self.inside.slots.items frames c.args.top c.self.invariant.0.kept.sound c.self.invariant.0.kept.opened is
     ∙ ap (λ (r : StackRows). filter (λ s. not (s.depth == c.args.top.depth)) r.locals) c.self.view_is))
 
 pub returns-clause-frames : goal.returns-clause-frames

@@ -9,7 +9,8 @@ set_room-requires g c = opens_ascending c.self.inside.slots.items c.self.inside.
 
 pub invariant_of-self : goal.invariant_of-self
 invariant_of-self g c = (
-  set_stacked c.self.inside.slots.items c.self.inside.frames.items _ c.args.room c.args.frame.depth c.args.frame.frame c.self.invariant.0 c.set_room.ensures.set,
+  set_stacked c.self.inside.slots.items c.self.inside.frames.items _ c.args.room c.args.frame.depth c.args.frame.frame c.self.invariant.0
+      c.set_room.ensures.set,
   c.self.invariant.1,
   c.self.invariant.2,
 )

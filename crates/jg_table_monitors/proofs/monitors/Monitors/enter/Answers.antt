@@ -25,13 +25,15 @@ pub returns-in-Others-clause-row : goal.returns-in-Others-clause-row
 returns-in-Others-clause-row g c = row_answer c.self.inside.owned _ c.args.tid.0 c.args.object.0 _ c.self.view_is c.in-Others.ensures.found
 
 pub returns-in-Others-clause-stands : goal.returns-in-Others-clause-stands
-returns-in-Others-clause-stands g c = λ e stands. event_answer c.self.inside.owned _ e c.args.tid.0 c.args.object.0 _ c.self.view_is stands c.in-Others.ensures.found
+returns-in-Others-clause-stands g c =
+    λ e stands. event_answer c.self.inside.owned _ e c.args.tid.0 c.args.object.0 _ c.self.view_is stands c.in-Others.ensures.found
 
 pub returns-in_ok-take-in-Free-clause-row : goal.returns-in_ok-take-in-Free-clause-row
 returns-in_ok-take-in-Free-clause-row g c = row_answer c.self.inside.owned _ c.args.tid.0 c.args.object.0 _ c.self.view_is c.in-Free.ensures.found
 
 pub returns-in_ok-take-in-Free-clause-stands : goal.returns-in_ok-take-in-Free-clause-stands
-returns-in_ok-take-in-Free-clause-stands g c = λ e stands. event_answer c.self.inside.owned _ e c.args.tid.0 c.args.object.0 _ c.self.view_is stands c.in-Free.ensures.found
+returns-in_ok-take-in-Free-clause-stands g c =
+    λ e stands. event_answer c.self.inside.owned _ e c.args.tid.0 c.args.object.0 _ c.self.view_is stands c.in-Free.ensures.found
 
 -- the owner's count is one more
 pub returns-in-Own-clause-entered : goal.returns-in-Own-clause-entered

@@ -17,7 +17,8 @@ returns-clause-marks g c =
     ∙ ap (list_any (λ (e : ℕ × Row). is_object o e.1.pending))
     (front_seen c.seats.result.now c.split_at.result.0.now c.self.inside.seats c.self.inside.raised
     c.seats.ensures.seats c.split_at.ensures.front)
-    ∙ any_in_front (λ row. is_object o row.pending) (λ row is. ap (is_object o) is) c.self.inside.seats c.self.inside.raised c.seats.ensures.once c.self.invariant.1
+    ∙ any_in_front (λ row. is_object o row.pending) (λ row is. ap (is_object o) is) c.self.inside.seats c.self.inside.raised c.seats.ensures.once
+    c.self.invariant.1
     ∙ list_any-map (λ (e : ℕ × Row). e.1) (λ e. is_object o e.1.pending) (λ (row : Row). is_object o row.pending) (λ e. refl) c.self.inside.seats
     ∙ ap (λ (es : List (ℕ × Row)). list_any (λ (row : Row). is_object o row.pending) (values_of es)) c.self.view_is)
     c.mark_seats.ensures

@@ -8,4 +8,5 @@ returns-in_ok-put-clause-ok g c = λ e stands.
     c.put.ensures.was_once c.put.ensures.once stands c.row-row.ensures (not-true _ c.if-not-row.true) c.in_ok-put.ensures.put
 
 pub returns-else-not-row-clause-ok : goal.returns-else-not-row-clause-ok
-returns-else-not-row-clause-ok g c = λ e stands. attach_again_law c.args.self.now e c.args.tid.0 c.row-row.result stands c.row-row.ensures (not-false _ c.if-not-row.false)
+returns-else-not-row-clause-ok g c =
+    λ e stands. attach_again_law c.args.self.now e c.args.tid.0 c.row-row.result stands c.row-row.ensures (not-false _ c.if-not-row.false)

@@ -7,7 +7,8 @@ pub returns-clause-stands : goal.returns-clause-stands
 returns-clause-stands g c = λ e stands.
     calm_law c.self.inside.rows c.replace.new.self c.args.self.now e c.args.tid.0 c.self.view_is c.replace.ensures.was_once c.replace.ensures.once stands
     (written_by c.self.inside.rows c.replace.new.self c.args.tid.0 (λ (r : Row). record r { pending = None }) _
-    (ap (λ (r : Row). record r { pending = None }) (c.row-row.ensures ∙ ap (λ (rows : List (ℕ × Row)). row_of rows c.args.tid.0) (sym c.self.view_is))) c.replace.ensures.put)
+    (ap (λ (r : Row). record r { pending = None }) (c.row-row.ensures ∙ ap (λ (rows : List (ℕ × Row)). row_of rows c.args.tid.0) (sym c.self.view_is)))
+    c.replace.ensures.put)
 
 pub returns-clause-row : goal.returns-clause-row
 returns-clause-row g c =

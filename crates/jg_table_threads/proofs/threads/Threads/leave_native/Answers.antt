@@ -5,9 +5,11 @@ use Rattle.jg_table_threads.proofs.threads.Threads.leave_native.Goals as goal
 
 pub returns-clause-stands : goal.returns-clause-stands
 returns-clause-stands g c = λ e stands.
-    leave_law c.self.inside.rows c.replace_rest.new.self c.args.self.now e c.args.tid.0 c.self.view_is c.replace_rest.ensures.was_once c.replace_rest.ensures.once stands c.requires.inside
+    leave_law c.self.inside.rows c.replace_rest.new.self c.args.self.now e c.args.tid.0 c.self.view_is c.replace_rest.ensures.was_once
+    c.replace_rest.ensures.once stands c.requires.inside
     (written_by c.self.inside.rows c.replace_rest.new.self c.args.tid.0 (λ (r : Row). record r { depth = r.depth - 1 }) _
-    (ap (λ (r : Row). record r { depth = r.depth - 1 }) (c.row-row.ensures ∙ ap (λ (rows : List (ℕ × Row)). row_of rows c.args.tid.0) (sym c.self.view_is))) c.replace_rest.ensures.put)
+    (ap (λ (r : Row). record r { depth = r.depth - 1 }) (c.row-row.ensures ∙ ap (λ (rows : List (ℕ × Row)). row_of rows c.args.tid.0) (sym c.self.view_is)))
+    c.replace_rest.ensures.put)
 
 pub returns-clause-row : goal.returns-clause-row
 returns-clause-row g c =

@@ -1,0 +1,8 @@
+use Rattle.std.proofs.Common.{◌≡◌, take}
+use Rattle.toml.specs.View.{items_view}
+use Rattle.jg_policy.specs.Faults.{first_of}
+use Rattle.jg_policy.specs.Findings.{each_of, text_faults}
+use Rattle.jg_policy.proofs.first_fault.texts_fault.Given as goal
+
+abbrev pub invariant-loop-value : goal.invariant-loop-value
+invariant-loop-value l = l.first ≡ first_of (each_of (text_faults l.spelling) (items_view (take l.value-index l.values)))

@@ -1,0 +1,11 @@
+mod Words
+mod Names
+mod Cut
+mod Once
+mod Parts
+mod Texts
+mod Faultless
+mod Answered
+mod Alike
+mod Verdicts
+mod Whole
