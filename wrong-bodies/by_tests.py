@@ -8,6 +8,8 @@ import tempfile
 import edits
 
 FAILED, PASSED, BAD, UNSURE = "failed its test", "NOT REFUSED", "BAD EDIT", "NOT TRIED"
+# The most bytes that a run takes, for `jg_test_cases`: 2.5 GB while LLVM takes 4.5.
+MEMORY = 7_500_000_000
 
 
 def said_of(crate, texts, words):

@@ -23,6 +23,8 @@ import edits
 import functions
 
 REFUSED, LOST, LIMIT, PASSED, BAD, UNSURE = "refused", "lost name", "limit", "NOT REFUSED", "BAD EDIT", "NOT TRIED"
+# The most bytes that a check takes.
+MEMORY = 3_600_000_000
 # What antt says where a proof names what an edit took away.
 TAKEN = re.compile(r"has no field|is not in scope|has no `|was not admitted|is no name that rattle asks for")
 
