@@ -1,0 +1,5 @@
+mod Callers
+mod Meanings
+mod Classes
+mod Judged
+mod Leases
