@@ -8,6 +8,8 @@ mod named;
 mod operand;
 mod reading;
 mod table;
+#[cfg(test)]
+mod tests;
 mod witness;
 
 pub use operand::Operand;

@@ -73,6 +73,14 @@ impl<A: Allocator + Copy> Witness<A> {
             arguments: Vec::new(alloc),
         }
     }
+    /// Tells that the collector let these objects go, as [`Core::gone`] does.
+    pub fn gone(&mut self, objects: &[ObjId]) -> Result<(), StillHeld>
+        ensures ok { OnOk result ((e : List Event) → WitnessStands self.old e
+            → WitnessStands self.new (told_gone objects.now e)) }
+        ensures err { OnErr result (Stays self.old self.new) }
+    {
+        self.core.gone(objects)
+    }
 }
 
 impl<A: Allocator + Clone> Witness<A> {
@@ -100,15 +108,6 @@ impl<A: Allocator + Clone> Witness<A> {
         ensures why { IfErr result (Refuses self.old.core fact) }
     {
         self.core.tell(fact)
-    }
-
-    /// Tells that the collector let these objects go, as [`Core::gone`] does.
-    pub fn gone(&mut self, objects: &[ObjId]) -> Result<(), StillHeld>
-        ensures ok { OnOk result ((e : List Event) → WitnessStands self.old e
-            → WitnessStands self.new (told_gone objects.now e)) }
-        ensures err { OnErr result (Stays self.old self.new) }
-    {
-        self.core.gone(objects)
     }
 
     /// The reference ended that the word was handed out for, and no call told it: the word means nothing any more.
