@@ -1,0 +1,3 @@
+pub mod Being
+pub mod Past
+pub mod Standing
