@@ -1,3 +1,4 @@
 pub mod Being
 pub mod Past
+pub mod Meant
 pub mod Standing

@@ -1,8 +1,9 @@
 -- What a witness stands for as events go on.
-use Rattle.std.proofs.Common.{ℕ, ◌≡◌, Bool, true, false, List, [], ◌∷◌, Option, Some, None, inl, inr, refl, ap, sym, ◌∙◌, subst}
+use Rattle.std.proofs.Common.{ℕ, ◌≡◌, Bool, true, false, List, [], ◌∷◌, Option, Some, None, inl, inr, refl, ap, sym, ◌∙◌, subst, eqb-true}
 use Rattle.std.specs.Prelude.{◌==◌, ◌⊎◌, if◌then◌else◌, nat_eq, cond}
 use Rattle.jg_words.specs.declared.object.ObjId.{ObjId}
 use Rattle.jg_words.specs.declared.reference.Ref.{Ref}
+use Rattle.jg_policy.specs.Stated.{StatedSetup}
 use Rattle.jg_rules.specs.Parts.{Parts}
 use Rattle.jg_core.specs.declared.fact.Fact.{Fact}
 use Rattle.jg_core.specs.Facts.{parts_of, History}
@@ -37,8 +38,54 @@ kept_is_lost core names new word older e stands is told =
     subst (λ (lost : Option Ref). CoreStands new (lost_after lost (facts_of e)))
     (ap (λ (kept : Option Ref). if_in_being (parts_of (facts_of e)) kept) is ∙ keeps_meaning word e (name_at word names) (stands.names word)) told
 
-removed : (b : Bool) (u word : ℕ) (names kept : List (ℕ × Ref)) (s : _) (e : List Event) → History s (facts_of (Lapsed u ∷ e)) → AreNamed e
-    → nat_eq u word ≡ b → name_at word kept ≡ cond b None (name_at word names) → Keeps word e (name_at word names)
-    → Keeps word (Lapsed u ∷ e) (name_at word kept)
-removed true u word names kept s e could named same is old = ?
-removed false u word names kept s e could named other is old = ?
+-- ---- the names after one of them was taken out, or put in
+
+lapsed_at : (s : StatedSetup) (b : Bool) (u word : ℕ) (e : List Event) (old new : Option Ref) → History s (facts_of (Lapsed u ∷ e)) → AreNamed e
+    → (u == word) ≡ b → new ≡ cond b None old → Keeps word e old → Keeps word (Lapsed u ∷ e) new
+lapsed_at s true u word e old new could named same is keeps =
+    inr (is, subst (λ (v : ℕ). meaning v (Lapsed u ∷ e) ≡ None) (eqb-true u word same) (lapsed_nothing u e))
+lapsed_at s false u word e old new could named other is keeps =
+    keeps_lapsed s u e could named word new (subst (λ (kept : Option Ref). Keeps word e kept) (sym is) keeps)
+
+handed_at : (s : StatedSetup) (b : Bool) (u : ℕ) (name : Ref) (word : ℕ) (e : List Event) (old new : Option Ref) → History s (facts_of (Lapsed u ∷ e))
+    → AreNamed e → (u == word) ≡ b → new ≡ cond b (Some name) old → Keeps word e old → Keeps word (Handed u name ∷ e) new
+handed_at s true u name word e old new could named same is keeps = inl (is ∙ rw same refl)
+handed_at s false u name word e old new could named other is keeps =
+    keeps_handed s u name e could named word new other (subst (λ (kept : Option Ref). Keeps word e kept) (sym is) keeps)
+
+pub lapsed_stands : (old new : CoreState) (names left : List (ℕ × Ref)) (u : ℕ) (e : List Event) → WitnessStands (both old names) e
+    → CoreStands new (facts_of (Lapsed u ∷ e)) → ((word : ℕ) → name_at word left ≡ cond (nat_eq u word) None (name_at word names))
+    → WitnessStands (both new left) (Lapsed u ∷ e)
+lapsed_stands old new names left u e stands core updates = record {
+  core = core;
+  named = stands.named;
+  names = λ word. lapsed_at new.setup (u == word) u word e (name_at word names) (name_at word left) core.history stands.named refl (updates word)
+      (stands.names word);
+}
+
+pub handed_stands : (old new : CoreState) (names left : List (ℕ × Ref)) (u : ℕ) (name : Ref) (e : List Event) → WitnessStands (both old names) e
+    → IsCounted (parts_of (facts_of e)) name → CoreStands new (facts_of (Lapsed u ∷ e))
+    → ((word : ℕ) → name_at word left ≡ cond (nat_eq u word) (Some name) (name_at word names))
+    → WitnessStands (both new left) (Handed u name ∷ e)
+handed_stands old new names left u name e stands counted core updates = record {
+  core = core;
+  named = (counted, stands.named);
+  names = λ word. handed_at new.setup (u == word) u name word e (name_at word names) (name_at word left) core.history stands.named refl (updates word)
+      (stands.names word);
+}
+
+-- ---- the names after a sweep
+
+swept : (p : Parts) (word : ℕ) (e : List Event) (old new : Option Ref) → p ≡ parts_of (facts_of e)
+    → (new ≡ old) ⊎ ((new ≡ None) × (if_in_being p old ≡ None)) → Keeps word e old → Keeps word e new
+swept p word e old new is (inl same) keeps = subst (λ (kept : Option Ref). Keeps word e kept) (sym same) keeps
+swept p word e old new is (inr none) keeps =
+    inr (none.0, sym (keeps_meaning word e old keeps) ∙ (ap (λ (q : Parts). if_in_being q old) (sym is) ∙ none.1))
+
+pub swept_stands : (core : CoreState) (names left : List (ℕ × Ref)) (e : List Event) → AreSwept (parts_of (facts_of e)) names left
+    → WitnessStands (both core names) e → WitnessStands (both core left) e
+swept_stands core names left e sweeps stands = record {
+  core = stands.core;
+  named = stands.named;
+  names = λ word. swept (parts_of (facts_of e)) word e (name_at word names) (name_at word left) refl (sweeps word) (stands.names word);
+}

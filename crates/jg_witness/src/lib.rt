@@ -6,6 +6,7 @@
 mod being;
 mod named;
 mod operand;
+mod promises;
 mod reading;
 mod table;
 #[cfg(test)]
@@ -13,4 +14,7 @@ mod tests;
 mod witness;
 
 pub use operand::Operand;
+pub use promises::{
+    handed_means, lapsed_means_nothing, nameless_is_dead, no_word_revived,
+};
 pub use witness::Witness;
