@@ -96,8 +96,11 @@ pub keeps_lapsed : (s : StatedSetup) (u : ℕ) (e : List Event) → History s (f
 keeps_lapsed s u e could named word kept (inl same) = inl same
 keeps_lapsed s u e could named word kept (inr none) =
     let lost = meaning u e in
-    inr (none.0, nothing_after s (facts_of e) lost (newest word e) could
-    (newest_counted s e (before_lost s lost (facts_of e) could) named word) none.1)
+    inr (
+      none.0,
+      nothing_after s (facts_of e) lost (newest word e) could
+          (newest_counted s e (before_lost s lost (facts_of e) could) named word) none.1,
+    )
 
 pub lapsed_nothing : (word : ℕ) (e : List Event) → meaning word (Lapsed word ∷ e) ≡ None
 lapsed_nothing word e = lost_means_nothing (facts_of e) (newest word e)

@@ -14,7 +14,5 @@ mod tests;
 mod witness;
 
 pub use operand::Operand;
-pub use promises::{
-    handed_means, lapsed_means_nothing, nameless_is_dead, no_word_revived,
-};
+pub use promises::{handed_means, lapsed_means_nothing, nameless_is_dead, no_word_revived};
 pub use witness::Witness;

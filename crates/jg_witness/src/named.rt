@@ -9,7 +9,7 @@ ghost use Rattle.jg_witness.specs.Events.{Event, Handed, Lapsed, IsCounted, fact
 ghost use Rattle.jg_witness.specs.Standing.{WitnessStands, both};
 ghost use Rattle.jg_witness.specs.Words.{GivesCounted, handed_on};
 
-use crate::table::{Names, make_room};
+use crate::table::{Names, Sweeping, make_room};
 use jg_core::{Core, Fact, Given, Untold};
 use jg_words::Ref;
 use std::alloc::Allocator;
@@ -38,7 +38,7 @@ pub(crate) fn lapse<A: Allocator + Clone>(core: &mut Core<A>, names: &mut Names<
 pub(crate) fn make_room_for<A: Allocator + Clone>(
     core: &mut Core<A>,
     names: &mut Names<A>,
-    most: &mut usize,
+    sweeping: &mut Sweeping,
     word: u64,
 ) -> Result<(), Untold>
     ensures ok { OnOk result ((e : List Event) → WitnessStands (both core.old names.old.entries) e
@@ -49,7 +49,7 @@ pub(crate) fn make_room_for<A: Allocator + Clone>(
         → WitnessStands (both core.new names.new.entries) (Lapsed word ∷ e)) }
     ensures why { IfErr result (λ why. why ≡ Untold.NoMemory) }
 {
-    match make_room(names, most, &core.view()) {
+    match make_room(names, sweeping, &core.view()) {
         Ok(()) => Ok(()),
         Err(_) => {
             lapse(core, names, word);

@@ -4,8 +4,9 @@ use crate::{Operand, Witness};
 use jg_core::{Answer, Fact, Untold};
 use jg_judge::Bounds;
 use jg_policy::Setup;
-use jg_words::{EnvId, Kind, ObjId, Ref, Rule, Tid};
-use std::alloc::Global;
+use jg_words::{EnvId, Kind, ObjId, Rule, Tid};
+use linked_list_allocator::LocalHeap;
+use std::alloc::{Allocator, Global};
 use std::test::Fail;
 
 const SETUP: &str = "version = 1\nillegal_native_access = \"deny\"\n";
@@ -29,7 +30,7 @@ const UNBOUNDED: Bounds = Bounds {
 };
 
 /// The rule that `GetStringLength` of the word breaks in the thread's first session, if it breaks one.
-fn denied(witness: &mut Witness, tid: Tid, word: u64) -> Option<Rule> {
+fn denied<A: Allocator + Clone>(witness: &mut Witness<A>, tid: Tid, word: u64) -> Option<Rule> {
     let env = Some(EnvId { tid, session: 1 });
     match witness.ask(
         UNBOUNDED,
@@ -69,7 +70,36 @@ fn use_words(witness: &mut Witness) -> Result<bool, Untold> {
 #[test]
 fn words_mean_what_they_were_handed_out_for(rt: HostRuntime) -> Result<(), Fail> {
     let setup = Setup::read(rt.alloc(), SETUP)?;
-    let mut witness = Witness::new(rt.alloc(), setup);
+    let mut witness = Witness::new(rt.alloc(), setup, 0);
     assert!(rt; use_words(&mut witness) == Ok(true));
+    Ok(())
+}
+
+/// Hands out words for locals, each of another frame, over and over. Whether each was dead once its frame was left.
+fn churn(witness: &mut Witness<&LocalHeap>) -> Result<bool, Untold> {
+    witness.tell(Fact::Begin(T))?;
+    witness.tell(Fact::Meet {
+        class: STRING,
+        length: 1,
+    })?;
+    let string = ObjId(15);
+    let mut is_right = true;
+    for word in 1..50_000u64 {
+        witness.tell(Fact::Enter(T))?;
+        let name = witness.hand(word, T, Kind::Local, string)?;
+        is_right = is_right && witness.meaning(word) == Some(name);
+        witness.tell(Fact::Leave { tid: T, kept: None })?;
+        is_right = is_right && witness.meaning(word).is_none();
+    }
+    Ok(is_right)
+}
+
+/// Names of references that ended take no memory for long.
+#[test]
+fn little_memory(rt: HostRuntime) -> Result<(), Fail> {
+    let heap = LocalHeap::new(rt.alloc(), 20_000)?;
+    let setup = Setup::read(rt.alloc(), SETUP)?;
+    let mut witness = Witness::new(&heap, setup, 64);
+    assert!(rt; churn(&mut witness) == Ok(true));
     Ok(())
 }

@@ -1,6 +1,6 @@
 //! The witness.
 
-ghost use Rattle.std.specs.Prelude.{◌≡◌, ◌≢◌, ◌∷◌, [], List, false, IfOk, IfErr, OnOk, OnErr};
+ghost use Rattle.std.specs.Prelude.{◌≡◌, ◌≢◌, ◌∷◌, [], List, false, Some, IfSome, IfOk, IfErr, OnOk, OnErr};
 ghost use Rattle.jg_words.specs.declared.reference.Ref.TheVariants.{To};
 ghost use Rattle.jg_rules.specs.Names.{next_ref};
 ghost use Rattle.jg_core.specs.declared.fact.Fact.TheVariants.{Hand};
@@ -18,7 +18,7 @@ use crate::being::is_in_being;
 use crate::named::{lapse, make_room_for, put, put_given};
 use crate::operand::Operand;
 use crate::reading::{meaning, read};
-use crate::table::Names;
+use crate::table::{Names, Sweeping, find};
 use jg_core::{Answer, Core, Ended, Fact, Given, Says, StillHeld, Ticket, Untold};
 use jg_judge::{Argument, Bounds};
 use jg_policy::Setup;
@@ -32,8 +32,7 @@ use std::marker::Model;
 pub struct Witness<A: Allocator = Global> {
     core: Core<A>,
     names: Names<A>,
-    /// How many names there may be before those that aren't in being are taken out.
-    most: usize,
+    sweeping: Sweeping,
     /// Room for the operands of a question.
     arguments: Vec<Argument, A>,
 }
@@ -43,7 +42,7 @@ impl<A: Allocator> Drop for Witness<A> {
         let Witness {
             core,
             names,
-            most: _,
+            sweeping: _,
             arguments,
         } = self;
         drop(core);
@@ -61,15 +60,16 @@ impl<A: Allocator> Model for Witness<A> {
 }
 
 impl<A: Allocator + Copy> Witness<A> {
-    /// A witness that was told nothing. It takes no memory; what is told grows from the handle.
-    pub fn new(alloc: A, setup: Setup) -> Witness<A>
+    /// A witness that was told nothing. It takes no memory; what is told grows from the handle. About so many names of
+    /// references that ended are kept, for [`Witness::last`].
+    pub fn new(alloc: A, setup: Setup, fewest: usize) -> Witness<A>
         ensures setup { result.core.setup ≡ setup }
         ensures stands { WitnessStands result [] }
     {
         Witness {
             core: Core::new(alloc, setup),
             names: HashMap::new(alloc),
-            most: 0,
+            sweeping: Sweeping { fewest, most: 0 },
             arguments: Vec::new(alloc),
         }
     }
@@ -96,6 +96,14 @@ impl<A: Allocator + Clone> Witness<A> {
         ensures { (e : List Event) → WitnessStands self.now e → result ≡ events.meaning word e }
     {
         meaning(&self.core, &self.names, word)
+    }
+
+    /// The newest name that the word was handed out for, in being or not, where it is kept still.
+    pub fn last(&self, word: u64) -> Option<Ref>
+        ensures { IfSome result (λ name. (e : List Event) → WitnessStands self.now e
+            → events.newest word e ≡ Some name) }
+    {
+        find(&self.names, word)
     }
 
     /// Tells a fact, as [`Core::tell`] does. A reference that it hands out has no word until [`Witness::handed`] is
@@ -129,7 +137,7 @@ impl<A: Allocator + Clone> Witness<A> {
             lapse(&mut self.core, &mut self.names, word);
             return Err(Untold::Impossible);
         }
-        make_room_for(&mut self.core, &mut self.names, &mut self.most, word)?;
+        make_room_for(&mut self.core, &mut self.names, &mut self.sweeping, word)?;
         put(&mut self.core, &mut self.names, word, name);
         Ok(())
     }
@@ -145,7 +153,7 @@ impl<A: Allocator + Clone> Witness<A> {
         ensures why { IfErr result (λ why. why ≢ Untold.NoMemory
             → Refuses self.old.core (Hand tid kind object) why) }
     {
-        make_room_for(&mut self.core, &mut self.names, &mut self.most, word)?;
+        make_room_for(&mut self.core, &mut self.names, &mut self.sweeping, word)?;
         match self.core.hand(tid, kind, object) {
             Ok(name) => {
                 put(&mut self.core, &mut self.names, word, name);
@@ -207,7 +215,7 @@ impl<A: Allocator + Clone> Witness<A> {
         ensures why { IfErr result (λ why. why ≢ Untold.NoMemory → RefusesReturn self.old.core ticket says why) }
     {
         if word != 0 {
-            make_room_for(&mut self.core, &mut self.names, &mut self.most, word)?;
+            make_room_for(&mut self.core, &mut self.names, &mut self.sweeping, word)?;
         }
         match self.core.returned(ticket, says) {
             Ok(given) => {
