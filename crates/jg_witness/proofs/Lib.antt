@@ -1,4 +1,4 @@
-pub mod Being
+pub mod Alive
 pub mod Past
 pub mod Meant
 pub mod Standing

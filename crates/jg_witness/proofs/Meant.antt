@@ -29,7 +29,7 @@ use Rattle.jg_witness.specs.Events.{Event, Told, Handed, Lapsed, AreNamed, facts
 use Rattle.jg_witness.specs.Standing.{Keeps}
 use Rattle.jg_witness.specs.Words.{dead_of}
 use Rattle.jg_witness.specs.Laws.{LapsedMeansNothing, HandedMeans, HandNoneOut, NoWordRevived, NamelessIsDead}
-use Rattle.jg_witness.proofs.Being.{being_found, found, same_number}
+use Rattle.jg_witness.proofs.Alive.{being_found, found, same_number}
 use Rattle.jg_witness.proofs.Past.{before_lost, keeps_handed, keeps_lapsed, keeps_meaning, keeps_told, lapsed_nothing}
 
 pub lapsed_law : LapsedMeansNothing

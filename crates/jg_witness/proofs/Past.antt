@@ -10,7 +10,7 @@ use Rattle.jg_core.specs.declared.fact.Fact.TheVariants.{Lost, Gone}
 use Rattle.jg_core.specs.Facts.{on, parts_of, can_be, is_in_being, all_gone, History}
 use Rattle.jg_witness.specs.Events.{Event, Told, Handed, Lapsed, AreNamed, IsCounted, facts_of, if_in_being, lost_after, meaning, newest, told_gone}
 use Rattle.jg_witness.specs.Standing.{Keeps}
-use Rattle.jg_witness.proofs.Being.{counted_stays, dead_stays, lost_dead}
+use Rattle.jg_witness.proofs.Alive.{counted_stays, dead_stays, lost_dead}
 
 -- ---- a name that isn't in being
 

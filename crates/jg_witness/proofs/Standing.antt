@@ -10,7 +10,7 @@ use Rattle.jg_core.specs.Facts.{parts_of, History}
 use Rattle.jg_core.specs.Kernel.{CoreState, CoreStands}
 use Rattle.jg_witness.specs.Events.{Event, Told, Handed, Lapsed, AreNamed, IsCounted, facts_of, if_in_being, lost_after, meaning, newest, told_gone}
 use Rattle.jg_witness.specs.Standing.{AreSwept, Keeps, WitnessStands, both, name_at}
-use Rattle.jg_witness.proofs.Being.{same_number}
+use Rattle.jg_witness.proofs.Alive.{same_number}
 use Rattle.jg_witness.proofs.Past.{keeps_gone, keeps_handed, keeps_lapsed, keeps_meaning, keeps_told, lapsed_nothing, facts_gone, named_gone}
 
 pub told_stands : (old new : CoreState) (names : List (ℕ × Ref)) (x : Fact) (e : List Event) → WitnessStands (both old names) e
