@@ -1,4 +1,6 @@
 pub mod Alive
 pub mod Past
+pub mod Counted
+pub mod Losing
 pub mod Meant
 pub mod Standing

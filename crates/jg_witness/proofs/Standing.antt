@@ -1,12 +1,17 @@
 -- What a witness stands for as events go on.
 use Rattle.std.proofs.Common.{ℕ, ◌≡◌, Bool, true, false, List, [], ◌∷◌, Option, Some, None, inl, inr, refl, ap, sym, ◌∙◌, subst, eqb-true}
 use Rattle.std.specs.Prelude.{◌==◌, ◌⊎◌, if◌then◌else◌, nat_eq, cond}
+use Rattle.std.specs.Cmp.{nat_eq_equiv}
+use Rattle.std.specs.List.{IsDistinct, filter}
+use Rattle.std.specs.Map.{keys_of}
+use Rattle.std.specs.Option.{option_filter}
+use Rattle.std.proofs.lemmas.Map.Entries.{lookup-filter-values}
 use Rattle.jg_words.specs.declared.object.ObjId.{ObjId}
 use Rattle.jg_words.specs.declared.reference.Ref.{Ref}
 use Rattle.jg_policy.specs.Stated.{StatedSetup}
 use Rattle.jg_rules.specs.Parts.{Parts}
 use Rattle.jg_core.specs.declared.fact.Fact.{Fact}
-use Rattle.jg_core.specs.Facts.{parts_of, History}
+use Rattle.jg_core.specs.Facts.{parts_of, is_in_being, History}
 use Rattle.jg_core.specs.Kernel.{CoreState, CoreStands}
 use Rattle.jg_witness.specs.Events.{Event, Told, Handed, Lapsed, AreNamed, IsCounted, facts_of, if_in_being, lost_after, meaning, newest, told_gone}
 use Rattle.jg_witness.specs.Standing.{AreSwept, Keeps, WitnessStands, both, name_at}
@@ -89,3 +94,29 @@ swept_stands core names left e sweeps stands = record {
   named = stands.named;
   names = λ word. swept (parts_of (facts_of e)) word e (name_at word names) (name_at word left) refl (sweeps word) (stands.names word);
 }
+
+-- what is left of the entries is what is in being
+kept_or_not : (p : Parts) (r : Ref) (b : Bool) → is_in_being p r ≡ b
+    → (option_filter (is_in_being p) (Some r) ≡ Some r) ⊎ ((option_filter (is_in_being p) (Some r) ≡ None) × (if_in_being p (Some r) ≡ None))
+kept_or_not p r true is = inl (rw is refl)
+kept_or_not p r false is = inr (rw is refl, rw is refl)
+
+filtered : (p : Parts) (old : Option Ref)
+    → (option_filter (is_in_being p) old ≡ old) ⊎ ((option_filter (is_in_being p) old ≡ None) × (if_in_being p old ≡ None))
+filtered p None = inl refl
+filtered p (Some r) = kept_or_not p r (is_in_being p r) refl
+
+pub filter_sweeps : (p : Parts) (old new : List (ℕ × Ref)) → IsDistinct nat_eq (keys_of old) → new ≡ filter (λ (e : ℕ × Ref). is_in_being p e.1) old
+    → AreSwept p old new
+filter_sweeps p old new distinct is word =
+    let found : name_at word new ≡ option_filter (is_in_being p) (name_at word old) =
+    ap (λ (es : List (ℕ × Ref)). name_at word es) is ∙ lookup-filter-values nat_eq_equiv (is_in_being p) word old distinct
+    in
+    subst (λ (x : Option Ref). (x ≡ name_at word old) ⊎ ((x ≡ None) × (if_in_being p (name_at word old) ≡ None))) (sym found)
+    (filtered p (name_at word old))
+
+-- a sweep, and then a table with the same names
+pub same_sweeps : (p : Parts) (old middle new : List (ℕ × Ref)) → AreSwept p old middle → ((word : ℕ) → name_at word new ≡ name_at word middle)
+    → AreSwept p old new
+same_sweeps p old middle new swept same word =
+    subst (λ (x : Option Ref). (x ≡ name_at word old) ⊎ ((x ≡ None) × (if_in_being p (name_at word old) ≡ None))) (sym (same word)) (swept word)
