@@ -29,8 +29,6 @@ use Rattle.jg_laws.proofs.Fresh.{Gone as NotLive, Ended as NoTarget, kind_below,
 use Rattle.jg_core.specs.declared.fact.Fact.{Fact}
 use Rattle.jg_core.specs.Facts.{on, lost_on, parts_of, can_be, is_in_being, History}
 use Rattle.jg_core.proofs.Each.{Keeps, each_fact, each_told, keeps_at_least, keeps_below, keeps_globals_below, keeps_gone, keeps_ended}
-use Rattle.jg_table_buffers.specs.History as buffers
-use Rattle.jg_rules.specs.Names.{next_buffer}
 use Rattle.jg_witness.specs.Events.{IsCounted}
 
 -- ---- what the tables have of a reference: the object that it was made for, while it is in being
@@ -211,8 +209,8 @@ dead_and true b c is = rw is refl
 dead_and false b c is = refl
 
 ended_if : (b : Bool) (n : ℕ) (m : Making) → survives n m.later ≡ b → b ≡ false → object_of (local_if_live n (Some m)) ≡ None
-ended_if true n m is no = absurd cc
-ended_if false n m is no = rw is refl
+ended_if true n m is isnt = absurd cc
+ended_if false n m is isnt = rw is refl
 
 deleted_made : (n : ℕ) (m : Option Making) → object_of (local_if_live n (seen_after (Delete n) m)) ≡ None
 deleted_made n None = refl

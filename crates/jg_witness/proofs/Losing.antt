@@ -13,7 +13,7 @@ use Rattle.jg_core.specs.Kernel.{CoreState, CoreStands, Took, Stayed, Refuses}
 use Rattle.jg_witness.specs.Events.{if_in_being, lost_after}
 
 off_and_on : (b : Bool) → b ≡ true → b ≡ false → ⊥
-off_and_on b is no = cc
+off_and_on b is isnt = cc
 
 -- what is in being can be lost, and for that no memory is wanted
 not_refused : (c : CoreState) (r : Ref) (w : List Fact) (why : Untold) → CoreStands c w → is_in_being (parts_of w) r ≡ true → Refuses c (Lost r) why → ⊥

@@ -10,9 +10,8 @@ use Rattle.jg_words.specs.declared.reference.Kind.{Kind}
 use Rattle.jg_words.specs.declared.reference.Kind.TheVariants.{Local, Global, Weak}
 use Rattle.jg_words.proofs.Common.{and_first, and_second}
 use Rattle.jg_policy.specs.Stated.{StatedSetup}
-use Rattle.jg_lists.specs.Acts.{how_many}
 use Rattle.jg_table_threads.specs.History as threads
-use Rattle.jg_table_locals.specs.History.{Act, Delete, Making, acts_of, by, done_here, is_enter, is_leave, is_pop, is_push, live, local_if_live, making, object_of, seen_after, survives, IsMadeBelow}
+use Rattle.jg_table_locals.specs.History.{Act, Delete, Making, acts_of, by, done_here, how_many, is_enter, is_leave, is_pop, is_push, live, local_if_live, making, object_of, seen_after, survives, IsMadeBelow}
 use Rattle.jg_table_locals.proofs.Callers.{acts_more, acts_same, each_thread, live_below}
 use Rattle.jg_table_globals.specs.History as globals
 use Rattle.jg_rules.specs.declared.named.Named.{Named}
@@ -53,8 +52,8 @@ survives_if false i n later is other = rw is refl
 
 live_if : (b : Bool) (i n : ℕ) (m : Making) → survives n m.later ≡ b → (i == n) ≡ false
     → object_of (local_if_live n (seen_after (Delete i) (Some m))) ≡ object_of (local_if_live n (Some m))
-live_if true i n m is other = rw (is, survives_if true i n m.later is other) refl
-live_if false i n m is other = rw (is, survives_if false i n m.later is other) refl
+live_if true i n m is other = let both = balanced n m.later is in rw (is, other, both.0, both.1) refl
+live_if false i n m is other = rw is refl
 
 live_still : (i n : ℕ) (found : Option Making) → (i == n) ≡ false
     → object_of (local_if_live n (seen_after (Delete i) found)) ≡ object_of (local_if_live n found)
@@ -79,8 +78,8 @@ same_to : (kind : Kind) (m maker : Tid) (i n : ℕ) → m ≡ maker → i ≡ n 
 same_to kind m maker i n a b = cc
 
 not_true : (b : Bool) → (b ≡ true → ⊥) → b ≡ false
-not_true true no = absurd (no refl)
-not_true false no = refl
+not_true true isnt = absurd (isnt refl)
+not_true false isnt = refl
 
 other_number : (kind : Kind) (m maker : Tid) (i n : ℕ) → To kind m i ≢ To kind maker n → m.0 ≡ maker.0 → (i == n) ≡ false
 other_number kind m maker i n differ same =

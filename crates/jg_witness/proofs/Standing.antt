@@ -1,20 +1,23 @@
 -- What a witness stands for as events go on.
 use Rattle.std.proofs.Common.{ℕ, ◌≡◌, Bool, true, false, List, [], ◌∷◌, Option, Some, None, inl, inr, refl, ap, sym, ◌∙◌, subst, eqb-true}
-use Rattle.std.specs.Prelude.{◌==◌, ◌⊎◌, if◌then◌else◌, nat_eq, cond}
+use Rattle.std.specs.Prelude.{◌==◌, ◌⊎◌, if◌then◌else◌, nat_eq, cond, Ok, Err, OnOk}
+use Rattle.std.specs.declared.result.Result.{Result}
 use Rattle.std.specs.Cmp.{nat_eq_equiv}
 use Rattle.std.specs.List.{IsDistinct, filter}
 use Rattle.std.specs.Map.{keys_of}
-use Rattle.std.specs.Option.{option_filter}
-use Rattle.std.proofs.lemmas.Map.Entries.{lookup-filter-values}
+use Rattle.std.proofs.lemmas.Map.Entries.{lookup-filter-values, option_filter}
 use Rattle.jg_words.specs.declared.object.ObjId.{ObjId}
 use Rattle.jg_words.specs.declared.reference.Ref.{Ref}
 use Rattle.jg_policy.specs.Stated.{StatedSetup}
 use Rattle.jg_rules.specs.Parts.{Parts}
 use Rattle.jg_core.specs.declared.fact.Fact.{Fact}
 use Rattle.jg_core.specs.Facts.{parts_of, is_in_being, History}
-use Rattle.jg_core.specs.Kernel.{CoreState, CoreStands}
+use Rattle.jg_core.specs.declared.says.Given.{Given}
+use Rattle.jg_core.specs.declared.kernel.Untold.{Untold}
+use Rattle.jg_core.specs.declared.gone.StillHeld.{StillHeld}
+use Rattle.jg_core.specs.Kernel.{CoreState, CoreStands, Took, TookAll}
 use Rattle.jg_witness.specs.Events.{Event, Told, Handed, Lapsed, AreNamed, IsCounted, facts_of, if_in_being, lost_after, meaning, newest, told_gone}
-use Rattle.jg_witness.specs.Standing.{AreSwept, Keeps, WitnessStands, both, name_at}
+use Rattle.jg_witness.specs.Standing.{AreSwept, Keeps, Takes, WitnessStands, both, name_at}
 use Rattle.jg_witness.proofs.Alive.{same_number}
 use Rattle.jg_witness.proofs.Past.{keeps_gone, keeps_handed, keeps_lapsed, keeps_meaning, keeps_told, lapsed_nothing, facts_gone, named_gone}
 
@@ -120,3 +123,19 @@ pub same_sweeps : (p : Parts) (old middle new : List (ℕ × Ref)) → AreSwept 
     → AreSwept p old new
 same_sweeps p old middle new swept same word =
     subst (λ (x : Option Ref). (x ≡ name_at word old) ⊎ ((x ≡ None) × (if_in_being p (name_at word old) ≡ None))) (sym (same word)) (swept word)
+
+-- ---- after a call that may be refused
+
+pub told_if : (old new : CoreState) (names : List (ℕ × Ref)) (x : Fact) (result : Result Given Untold) → OnOk result (Took old new x)
+    → OnOk result (Takes (both old names) (both new names) (Told x))
+told_if old new names x (Ok out) took =
+    λ e stands. told_stands old new names x e stands (took.stands (facts_of e) stands.core)
+told_if old new names x (Err why) took = tt
+
+pub gone_if : (old new : CoreState) (names : List (ℕ × Ref)) (objects : List ObjId) (result : Result (Unit {0}) StillHeld)
+    → OnOk result (TookAll old new objects)
+    → OnOk result ((e : List Event) → WitnessStands (both old names) e → WitnessStands (both new names) (told_gone objects e))
+gone_if old new names objects (Ok out) took =
+    λ e stands. gone_stands old new names objects e stands
+    (subst (λ (w : List Fact). CoreStands new w) (sym (facts_gone objects e)) (took.stands (facts_of e) stands.core))
+gone_if old new names objects (Err held) took = tt

@@ -1,5 +1,5 @@
 -- What contracts see of a witness.
-use Rattle.std.specs.Prelude.{ℕ, ◌≡◌, ◌⊎◌, List, Option, None, nat_eq}
+use Rattle.std.specs.Prelude.{ℕ, ◌≡◌, ◌⊎◌, List, ◌∷◌, Option, None, nat_eq}
 use Rattle.std.specs.Map.{lookup}
 use Rattle.jg_words.specs.declared.reference.Ref.{Ref}
 use Rattle.jg_rules.specs.Parts.{Parts}
