@@ -3,4 +3,5 @@ pub mod Past
 pub mod Counted
 pub mod Losing
 pub mod Meant
+pub mod Returning
 pub mod Standing

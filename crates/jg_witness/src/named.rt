@@ -58,6 +58,27 @@ pub(crate) fn make_room_for<A: Allocator + Clone>(
     }
 }
 
+/// The same for a word that may be 0, which needs no room.
+pub(crate) fn make_room_unless_null<A: Allocator + Clone>(
+    core: &mut Core<A>,
+    names: &mut Names<A>,
+    sweeping: &mut Sweeping,
+    word: u64,
+) -> Result<(), Untold>
+    ensures ok { OnOk result ((e : List Event) → WitnessStands (both core.old names.old.entries) e
+        → WitnessStands (both core.new names.new.entries) e) }
+    ensures room { OnOk result (word ≢ 0 → 0 < spare names.new) }
+    ensures core { OnOk result (core.new ≡ core.old) }
+    ensures err { OnErr result ((e : List Event) → WitnessStands (both core.old names.old.entries) e
+        → WitnessStands (both core.new names.new.entries) (Lapsed word ∷ e)) }
+    ensures why { IfErr result (λ why. why ≡ Untold.NoMemory) }
+{
+    if word == 0 {
+        return Ok(());
+    }
+    make_room_for(core, names, sweeping, word)
+}
+
 /// The machine handed out the word for this name, which the core gave.
 pub(crate) fn put<A: Allocator + Clone>(
     core: &mut Core<A>,

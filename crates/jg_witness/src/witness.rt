@@ -15,7 +15,7 @@ ghost use Rattle.jg_witness.specs.Standing.{WitnessStands, Stays, Takes};
 ghost use Rattle.jg_witness.specs.Words.{arguments_of, EndedAs, Returned};
 
 use crate::being::is_in_being;
-use crate::named::{lapse, make_room_for, put, put_given};
+use crate::named::{lapse, make_room_for, make_room_unless_null, put, put_given};
 use crate::operand::Operand;
 use crate::reading::{meaning, read};
 use crate::table::{Names, Sweeping, find};
@@ -214,9 +214,7 @@ impl<A: Allocator + Clone> Witness<A> {
         ensures err { OnErr result (Takes self.old self.new (Lapsed word)) }
         ensures why { IfErr result (λ why. why ≢ Untold.NoMemory → RefusesReturn self.old.core ticket says why) }
     {
-        if word != 0 {
-            make_room_for(&mut self.core, &mut self.names, &mut self.sweeping, word)?;
-        }
+        make_room_unless_null(&mut self.core, &mut self.names, &mut self.sweeping, word)?;
         match self.core.returned(ticket, says) {
             Ok(given) => {
                 put_given(&mut self.core, &mut self.names, word, given);
