@@ -1,20 +1,17 @@
 -- When a reference is in being, over facts that could be.
-use Rattle.std.proofs.Common.{ℕ, ◌≡◌, ◌+◌, ◌≤◌, ◌<◌, Bool, true, false, List, [], ◌∷◌, ◌++◌, Option, Some, None, refl, ap, sym, ◌∙◌, subst, arith}
+use Rattle.std.proofs.Common.{ℕ, ◌≡◌, ◌+◌, ◌≤◌, ◌<◌, Bool, true, false, List, [], ◌∷◌, ◌++◌, Option, Some, None, refl, ap, sym, ◌∙◌, arith}
 use Rattle.std.specs.Prelude.{◌==◌, ◌&&◌, not, if◌then◌else◌}
 use Rattle.std.specs.Option.{is_some}
 use Rattle.std.specs.List.{list_any}
 use Rattle.std.proofs.lemmas.Bool.Decides.{nat_tests}
 use Rattle.jg_words.specs.declared.thread.Tid.{Tid}
-use Rattle.jg_words.specs.declared.object.ObjId.{ObjId}
 use Rattle.jg_words.specs.declared.reference.Ref.{Ref}
 use Rattle.jg_words.specs.declared.reference.Ref.TheVariants.{Null, To}
 use Rattle.jg_words.specs.declared.reference.Kind.{Kind}
 use Rattle.jg_words.specs.declared.reference.Kind.TheVariants.{Local, Global, Weak}
 use Rattle.jg_policy.specs.Stated.{StatedSetup}
-use Rattle.jg_table_threads.specs.History as threads
-use Rattle.jg_table_locals.specs.History.{Act, Delete, Making, acts_of, by, live, local_if_live, making, object_of, seen_after, survives}
+use Rattle.jg_table_locals.specs.History.{Act, Delete, Making, acts_of, live, local_if_live, making, object_of, seen_after, survives}
 use Rattle.jg_table_locals.proofs.Callers.{acts_more, live_below}
-use Rattle.jg_table_globals.specs.declared.target.Target.{Target}
 use Rattle.jg_table_globals.specs.declared.target.Target.TheVariants.{Object as ToObject, Cleared}
 use Rattle.jg_table_globals.specs.History as globals
 use Rattle.jg_table_globals.specs.Laws as global_laws

@@ -1,6 +1,6 @@
 -- The laws of specs/Laws.
-use Rattle.std.proofs.Common.{ℕ, ◌≡◌, ◌≢◌, ◌≤◌, ◌<◌, ◌+◌, ◌-◌, ◌^◌, Bool, true, false, List, [], ◌∷◌, ◌++◌, Option, Some, None, inl, inr, refl, ap, sym, ◌∙◌, subst, arith, eqb-true}
-use Rattle.std.specs.Prelude.{◌==◌, ◌&&◌, not, nat_le, if◌then◌else◌}
+use Rattle.std.proofs.Common.{ℕ, ◌≡◌, ◌≢◌, ◌<◌, ◌-◌, ◌^◌, Bool, true, false, List, [], ◌∷◌, ◌++◌, Option, Some, None, inr, refl, ap, sym, ◌∙◌, arith, eqb-true}
+use Rattle.std.specs.Prelude.{◌==◌, nat_le, if◌then◌else◌}
 use Rattle.std.specs.Option.{is_some}
 use Rattle.std.proofs.lemmas.Bool.Decides.{nat_tests}
 use Rattle.jg_words.specs.declared.thread.Tid.{Tid}
@@ -14,19 +14,15 @@ use Rattle.jg_table_threads.specs.History as threads
 use Rattle.jg_table_locals.specs.History.{Act, Delete, Making, acts_of, by, done_here, how_many, is_enter, is_leave, is_pop, is_push, live, local_if_live, making, object_of, seen_after, survives, IsMadeBelow}
 use Rattle.jg_table_locals.proofs.Callers.{acts_more, acts_same, each_thread, live_below}
 use Rattle.jg_table_globals.specs.History as globals
-use Rattle.jg_rules.specs.declared.named.Named.{Named}
-use Rattle.jg_rules.specs.declared.named.Named.TheVariants.{Nothing}
 use Rattle.jg_rules.specs.Parts.{Parts}
-use Rattle.jg_rules.specs.Names.{named_by, names, next_ref}
+use Rattle.jg_rules.specs.Names.{next_ref}
 use Rattle.jg_laws.proofs.Fresh.{same_pair}
 use Rattle.jg_core.specs.declared.fact.Fact.{Fact}
-use Rattle.jg_core.specs.declared.fact.Fact.TheVariants.{Lost}
-use Rattle.jg_core.specs.Facts.{on, lost_on, parts_of, is_in_being, made_in, History}
+use Rattle.jg_core.specs.Facts.{lost_on, parts_of, is_in_being, History}
 use Rattle.jg_core.proofs.Few.{references_most}
 use Rattle.jg_core.proofs.Due.{ordinary}
 use Rattle.jg_witness.specs.Events.{Event, Told, Handed, Lapsed, AreNamed, facts_of, if_in_being, lost_after, meaning, newest}
 use Rattle.jg_witness.specs.Standing.{Keeps}
-use Rattle.jg_witness.specs.Words.{dead_of}
 use Rattle.jg_witness.specs.Laws.{LapsedMeansNothing, HandedMeans, HandNoneOut, NoWordRevived, NamelessIsDead}
 use Rattle.jg_witness.proofs.Alive.{being_found, found, same_number}
 use Rattle.jg_witness.proofs.Past.{before_lost, keeps_handed, keeps_lapsed, keeps_meaning, keeps_told, lapsed_nothing}

@@ -1,5 +1,5 @@
 -- What a witness stands for once a call returned, or was ended.
-use Rattle.std.proofs.Common.{ℕ, ◌≡◌, false, List, ◌∷◌, Option, Some, None, refl, ap, sym, ◌∙◌, subst}
+use Rattle.std.proofs.Common.{ℕ, ◌≡◌, List, Option, Some, None, refl, ap, sym, ◌∙◌, subst}
 use Rattle.std.specs.Prelude.{Ok, Err, IfOk}
 use Rattle.std.specs.declared.result.Result.{Result}
 use Rattle.jg_words.specs.declared.thread.Tid.{Tid}

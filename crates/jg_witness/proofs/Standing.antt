@@ -1,6 +1,6 @@
 -- What a witness stands for as events go on.
-use Rattle.std.proofs.Common.{ℕ, ◌≡◌, Bool, true, false, List, [], ◌∷◌, Option, Some, None, inl, inr, refl, ap, sym, ◌∙◌, subst, eqb-true}
-use Rattle.std.specs.Prelude.{◌==◌, ◌⊎◌, if◌then◌else◌, nat_eq, cond, Ok, Err, OnOk}
+use Rattle.std.proofs.Common.{ℕ, ◌≡◌, Bool, true, false, List, ◌∷◌, Option, Some, None, inl, inr, refl, ap, sym, ◌∙◌, subst, eqb-true}
+use Rattle.std.specs.Prelude.{◌==◌, ◌⊎◌, nat_eq, cond, Ok, Err, OnOk}
 use Rattle.std.specs.declared.result.Result.{Result}
 use Rattle.std.specs.Cmp.{nat_eq_equiv}
 use Rattle.std.specs.List.{IsDistinct, filter}
@@ -16,9 +16,8 @@ use Rattle.jg_core.specs.declared.says.Given.{Given}
 use Rattle.jg_core.specs.declared.kernel.Untold.{Untold}
 use Rattle.jg_core.specs.declared.gone.StillHeld.{StillHeld}
 use Rattle.jg_core.specs.Kernel.{CoreState, CoreStands, Took, TookAll}
-use Rattle.jg_witness.specs.Events.{Event, Told, Handed, Lapsed, AreNamed, IsCounted, facts_of, if_in_being, lost_after, meaning, newest, told_gone}
+use Rattle.jg_witness.specs.Events.{Event, Told, Handed, Lapsed, AreNamed, IsCounted, facts_of, if_in_being, lost_after, meaning, told_gone}
 use Rattle.jg_witness.specs.Standing.{AreSwept, Keeps, Takes, WitnessStands, both, name_at}
-use Rattle.jg_witness.proofs.Alive.{same_number}
 use Rattle.jg_witness.proofs.Past.{keeps_gone, keeps_handed, keeps_lapsed, keeps_meaning, keeps_told, lapsed_nothing, facts_gone, named_gone}
 
 pub told_stands : (old new : CoreState) (names : List (ℕ × Ref)) (x : Fact) (e : List Event) → WitnessStands (both old names) e

@@ -1,5 +1,5 @@
 -- What holds whatever happened. A list of events has the newest first; its facts could be when they were told.
-use Rattle.std.specs.Prelude.{ℕ, ◌≡◌, ◌≢◌, ◌≤◌, ◌^◌, true, List, [], ◌∷◌, ◌++◌, Option, Some, None}
+use Rattle.std.specs.Prelude.{ℕ, ◌≡◌, ◌≢◌, ◌≤◌, ◌^◌, true, List, [], ◌∷◌, ◌++◌, Some, None}
 use Rattle.jg_words.specs.declared.thread.Tid.{Tid}
 use Rattle.jg_words.specs.declared.reference.Ref.{Ref}
 use Rattle.jg_policy.specs.Stated.{StatedSetup}
@@ -7,7 +7,6 @@ use Rattle.jg_rules.specs.declared.named.Named.TheVariants.{Nothing}
 use Rattle.jg_rules.specs.Names.{names}
 use Rattle.jg_core.specs.declared.fact.Fact.{Fact}
 use Rattle.jg_core.specs.Facts.{History, parts_of, is_in_being, made_in}
-use Rattle.jg_core.specs.Kernel.{CoreState, CoreStands}
 use Rattle.jg_witness.specs.Events.{Event, Told, Handed, Lapsed, AreNamed, facts_of, meaning, newest}
 use Rattle.jg_witness.specs.Words.{dead_of}
 

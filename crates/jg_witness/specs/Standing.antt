@@ -3,7 +3,6 @@ use Rattle.std.specs.Prelude.{ℕ, ◌≡◌, ◌⊎◌, List, ◌∷◌, Option
 use Rattle.std.specs.Map.{lookup}
 use Rattle.jg_words.specs.declared.reference.Ref.{Ref}
 use Rattle.jg_rules.specs.Parts.{Parts}
-use Rattle.jg_core.specs.Facts.{parts_of}
 use Rattle.jg_core.specs.Kernel.{CoreState, CoreStands}
 use Rattle.jg_witness.specs.Events.{Event, AreNamed, facts_of, if_in_being, meaning, newest}
 
