@@ -1,6 +1,6 @@
 -- What a witness stands for as events go on.
-use Rattle.std.proofs.Common.{ℕ, ◌≡◌, Bool, true, false, List, ◌∷◌, Option, Some, None, inl, inr, refl, ap, sym, ◌∙◌, subst, eqb-true}
-use Rattle.std.specs.Prelude.{◌==◌, ◌⊎◌, nat_eq, cond, Ok, Err, OnOk}
+use Rattle.std.proofs.Common.{ℕ, ◌≡◌, Bool, true, false, List, ◌∷◌, Option, Some, None, inl, inr, refl, ap, sym, ◌∙◌, subst}
+use Rattle.std.specs.Prelude.{◌⊎◌, nat_eq, Ok, Err, OnOk}
 use Rattle.std.specs.declared.result.Result.{Result}
 use Rattle.std.specs.Cmp.{nat_eq_equiv}
 use Rattle.std.specs.List.{IsDistinct, filter}
@@ -8,17 +8,16 @@ use Rattle.std.specs.Map.{keys_of}
 use Rattle.std.proofs.lemmas.Map.Entries.{lookup-filter-values, option_filter}
 use Rattle.jg_words.specs.declared.object.ObjId.{ObjId}
 use Rattle.jg_words.specs.declared.reference.Ref.{Ref}
-use Rattle.jg_policy.specs.Stated.{StatedSetup}
 use Rattle.jg_rules.specs.Parts.{Parts}
 use Rattle.jg_core.specs.declared.fact.Fact.{Fact}
-use Rattle.jg_core.specs.Facts.{parts_of, is_in_being, History}
+use Rattle.jg_core.specs.Facts.{parts_of, is_in_being}
 use Rattle.jg_core.specs.declared.says.Given.{Given}
 use Rattle.jg_core.specs.declared.kernel.Untold.{Untold}
 use Rattle.jg_core.specs.declared.gone.StillHeld.{StillHeld}
 use Rattle.jg_core.specs.Kernel.{CoreState, CoreStands, Took, TookAll}
-use Rattle.jg_witness.specs.Events.{Event, Told, Handed, Lapsed, AreNamed, IsCounted, facts_of, if_in_being, lost_after, meaning, told_gone}
+use Rattle.jg_witness.specs.Events.{Event, Told, facts_of, if_in_being, told_gone}
 use Rattle.jg_witness.specs.Standing.{AreSwept, Keeps, Takes, WitnessStands, both, name_at}
-use Rattle.jg_witness.proofs.Past.{keeps_gone, keeps_handed, keeps_lapsed, keeps_meaning, keeps_told, lapsed_nothing, facts_gone, named_gone}
+use Rattle.jg_witness.proofs.Past.{keeps_gone, keeps_meaning, keeps_told, facts_gone, named_gone}
 
 pub told_stands : (old new : CoreState) (names : List (ℕ × Ref)) (x : Fact) (e : List Event) → WitnessStands (both old names) e
     → CoreStands new (x ∷ facts_of e) → WitnessStands (both new names) (Told x ∷ e)
@@ -34,51 +33,6 @@ gone_stands old new names objects e stands core = record {
   core = core;
   named = named_gone objects e stands.named;
   names = λ word. keeps_gone new.setup objects e core.history stands.named word (name_at word names) (stands.names word);
-}
-
--- the name that was kept for the word is the one that is told to be lost
-pub kept_is_lost : (core : CoreState) (names : List (ℕ × Ref)) (new : CoreState) (word : ℕ) (older : Option Ref) (e : List Event)
-    → WitnessStands (both core names) e → older ≡ name_at word names
-    → CoreStands new (lost_after (if_in_being (parts_of (facts_of e)) older) (facts_of e))
-    → CoreStands new (facts_of (Lapsed word ∷ e))
-kept_is_lost core names new word older e stands is told =
-    subst (λ (lost : Option Ref). CoreStands new (lost_after lost (facts_of e)))
-    (ap (λ (kept : Option Ref). if_in_being (parts_of (facts_of e)) kept) is ∙ keeps_meaning word e (name_at word names) (stands.names word)) told
-
--- ---- the names after one of them was taken out, or put in
-
-lapsed_at : (s : StatedSetup) (b : Bool) (u word : ℕ) (e : List Event) (old new : Option Ref) → History s (facts_of (Lapsed u ∷ e)) → AreNamed e
-    → (u == word) ≡ b → new ≡ cond b None old → Keeps word e old → Keeps word (Lapsed u ∷ e) new
-lapsed_at s true u word e old new could named same is keeps =
-    inr (is, subst (λ (v : ℕ). meaning v (Lapsed u ∷ e) ≡ None) (eqb-true u word same) (lapsed_nothing u e))
-lapsed_at s false u word e old new could named other is keeps =
-    keeps_lapsed s u e could named word new (subst (λ (kept : Option Ref). Keeps word e kept) (sym is) keeps)
-
-handed_at : (s : StatedSetup) (b : Bool) (u : ℕ) (name : Ref) (word : ℕ) (e : List Event) (old new : Option Ref) → History s (facts_of (Lapsed u ∷ e))
-    → AreNamed e → (u == word) ≡ b → new ≡ cond b (Some name) old → Keeps word e old → Keeps word (Handed u name ∷ e) new
-handed_at s true u name word e old new could named same is keeps = inl (is ∙ rw same refl)
-handed_at s false u name word e old new could named other is keeps =
-    keeps_handed s u name e could named word new other (subst (λ (kept : Option Ref). Keeps word e kept) (sym is) keeps)
-
-pub lapsed_stands : (old new : CoreState) (names left : List (ℕ × Ref)) (u : ℕ) (e : List Event) → WitnessStands (both old names) e
-    → CoreStands new (facts_of (Lapsed u ∷ e)) → ((word : ℕ) → name_at word left ≡ cond (nat_eq u word) None (name_at word names))
-    → WitnessStands (both new left) (Lapsed u ∷ e)
-lapsed_stands old new names left u e stands core updates = record {
-  core = core;
-  named = stands.named;
-  names = λ word. lapsed_at new.setup (u == word) u word e (name_at word names) (name_at word left) core.history stands.named refl (updates word)
-      (stands.names word);
-}
-
-pub handed_stands : (old new : CoreState) (names left : List (ℕ × Ref)) (u : ℕ) (name : Ref) (e : List Event) → WitnessStands (both old names) e
-    → IsCounted (parts_of (facts_of e)) name → CoreStands new (facts_of (Lapsed u ∷ e))
-    → ((word : ℕ) → name_at word left ≡ cond (nat_eq u word) (Some name) (name_at word names))
-    → WitnessStands (both new left) (Handed u name ∷ e)
-handed_stands old new names left u name e stands counted core updates = record {
-  core = core;
-  named = (counted, stands.named);
-  names = λ word. handed_at new.setup (u == word) u name word e (name_at word names) (name_at word left) core.history stands.named refl (updates word)
-      (stands.names word);
 }
 
 -- ---- the names after a sweep
