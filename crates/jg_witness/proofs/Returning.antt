@@ -1,0 +1,89 @@
+-- What a witness stands for once a call returned, or was ended.
+use Rattle.std.proofs.Common.{ℕ, ◌≡◌, List, Option, Some, None, refl, ap, sym, ◌∙◌, subst}
+use Rattle.std.specs.Prelude.{Ok, Err, IfOk}
+use Rattle.std.specs.declared.result.Result.{Result}
+use Rattle.jg_words.specs.declared.thread.Tid.{Tid}
+use Rattle.jg_words.specs.declared.thread.EnvId.{EnvId}
+use Rattle.jg_words.specs.declared.reference.Ref.{Ref}
+use Rattle.jg_policy.specs.Stated.{StatedSetup}
+use Rattle.jg_rules.specs.Parts.{Parts}
+use Rattle.jg_judge.specs.declared.argument.Argument.{Argument}
+use Rattle.jg_judge.specs.declared.argument.Bounds.{Bounds}
+use Rattle.jg_core.specs.declared.fact.Fact.{Fact}
+use Rattle.jg_core.specs.declared.says.Says.{Says}
+use Rattle.jg_core.specs.declared.says.Given.{Given}
+use Rattle.jg_core.specs.declared.kernel.Untold.{Untold}
+use Rattle.jg_core.specs.declared.asking.Ticket.{Ticket}
+use Rattle.jg_core.specs.declared.asking.Ended.{Ended}
+use Rattle.jg_core.specs.Asking as asking
+use Rattle.jg_core.specs.Asking.{asked, foreseen, given_for}
+use Rattle.jg_core.specs.Expected.{told}
+use Rattle.jg_core.specs.Facts.{parts_of}
+use Rattle.jg_core.specs.Implied as implied
+use Rattle.jg_core.specs.Kernel.{CoreState, CoreStands, Stayed}
+use Rattle.jg_witness.specs.declared.operand.Operand.{Operand}
+use Rattle.jg_witness.specs.Events.{Event, facts_of}
+use Rattle.jg_witness.specs.Standing.{Stays, WitnessStands, both}
+use Rattle.jg_witness.specs.Words.{EndedAs, GivesCounted, Returned, arguments_of, handed_on, told_on}
+use Rattle.jg_witness.proofs.Counted.{on_told, ticket_counted}
+use Rattle.jg_witness.proofs.Standing.{told_stands}
+
+told_on_stands : (old new : CoreState) (names : List (ℕ × Ref)) (fact : Option Fact) (e : List Event) → WitnessStands (both old names) e
+    → CoreStands new (implied.told_on fact (facts_of e)) → WitnessStands (both new names) (told_on fact e)
+told_on_stands old new names None e stands core = record { core = core; named = stands.named; names = stands.names }
+told_on_stands old new names (Some x) e stands core = told_stands old new names x e stands core
+
+parts_told : (fact : Option Fact) (e : List Event) → on_told fact (parts_of (facts_of e)) ≡ parts_of (facts_of (told_on fact e))
+parts_told None e = refl
+parts_told (Some x) e = refl
+
+given_counts : (s : StatedSetup) (ticket : Ticket) (fact : Option Fact) (given : Given) (e : List Event)
+    → given ≡ given_for s (parts_of (facts_of e)) ticket fact → GivesCounted (parts_of (facts_of (told_on fact e))) given
+given_counts s ticket fact given e is =
+    let p : Parts = parts_of (facts_of e) in
+    subst (λ (q : Parts). GivesCounted q given) (parts_told fact e)
+    (subst (λ (out : Given). GivesCounted (on_told fact p) out) (sym is) (ticket_counted s p ticket fact))
+
+pub returned_stands : (old middle new last : CoreState) (names kept left : List (ℕ × Ref)) (ticket : Ticket) (says : Says) (word : ℕ) (given : Given)
+    → middle ≡ old → ((e : List Event) → WitnessStands (both old names) e → WitnessStands (both middle kept) e)
+    → asking.Returned middle new ticket says given
+    → ((e : List Event) → WitnessStands (both new kept) e → GivesCounted (parts_of (facts_of e)) given → WitnessStands (both last left) (handed_on word given e))
+    → Returned (both old names) (both last left) ticket says word given
+returned_stands old middle new last names kept left ticket says word given same room r put = record {
+  fact = r.fact;
+  is = r.is;
+  stands = λ e stands.
+      let start = room e stands in
+      put (told_on r.fact e) (told_on_stands middle new kept r.fact e start (r.stands (facts_of e) start.core))
+      (given_counts middle.setup ticket r.fact given e (r.answers (facts_of e) start.core));
+  answers = λ e stands.
+      subst (λ (core : CoreState). given ≡ given_for core.setup (parts_of (facts_of e)) ticket r.fact) same
+      (r.answers (facts_of e) (room e stands).core);
+}
+
+stays_both : (old new : CoreState) (names : List (ℕ × Ref)) → Stayed old new → Stays (both old names) (both new names)
+stays_both old new names stayed e stands = record {
+  core = stayed.stands (facts_of e) stands.core;
+  named = stands.named;
+  names = stands.names;
+}
+
+pub ended_as : (old new : CoreState) (names : List (ℕ × Ref)) (bounds : Bounds) (t : Tid) (env : Option EnvId) (function : ℕ) (operands : List Operand)
+    (xs : List Argument) (result : Result Ended Untold) → ((e : List Event) → WitnessStands (both old names) e → xs ≡ arguments_of t e operands)
+    → IfOk result (asking.EndedAs old new bounds t env function xs)
+    → IfOk result (EndedAs (both old names) (both new names) bounds t env function operands)
+ended_as old new names bounds t env function operands xs (Err why) is core = tt
+ended_as old new names bounds t env function operands xs (Ok out) is core = record {
+  answer = λ e stands.
+      core.answer (facts_of e) stands.core
+      ∙ ap (λ (ys : List Argument). asked bounds old.setup (parts_of (facts_of e)) t env function ys) (is e stands);
+  passed = λ ticket was e stands.
+      let r = core.passed ticket was (facts_of e) stands.core in
+      record {
+        fact = r.fact;
+        is = subst (λ (ys : List Argument). told ticket.tid ticket.expected (foreseen (parts_of (facts_of e)) ticket ys) ≡ Some r.fact) (is e stands) r.is;
+        stands = told_on_stands old new names r.fact e stands (r.stands (facts_of e) stands.core);
+        answers = r.answers (facts_of e) stands.core;
+      };
+  otherwise = λ isnt. let stayed = core.otherwise isnt in (stays_both old new names stayed.0, stayed.1);
+}

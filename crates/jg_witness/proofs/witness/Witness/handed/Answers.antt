@@ -1,0 +1,14 @@
+use Rattle.std.proofs.Common.{◌≡◌, ◌∙◌, true, sym, subst}
+use Rattle.jg_core.specs.Facts.{is_in_being, parts_of}
+use Rattle.jg_witness.specs.Events.{facts_of}
+use Rattle.jg_witness.specs.Standing.{WitnessStands, WitnessState}
+use Rattle.jg_witness.proofs.Alive.{being_counted}
+use Rattle.jg_witness.proofs.witness.Witness.handed.Goals as goal
+
+pub returns-clause-ok : goal.returns-clause-ok
+returns-clause-ok g c = λ e stands.
+    let w = facts_of e in
+    let start = subst (λ (old : WitnessState). WitnessStands old e) (sym c.self.view_is) stands in
+    let is : is_in_being (parts_of w) c.args.name ≡ true =
+    sym (c.is_in_being.ensures (parts_of w) (c.view.ensures.tells w start.core)) ∙ c.if-not-is_in_being.false in
+    c.put.ensures e (c.in_ok-make_room_for.ensures.ok e start) (being_counted c.self.inside.core.setup w c.args.name start.core.history is)
