@@ -4,3 +4,4 @@ pub mod Counted
 pub mod Meant
 pub mod Returning
 pub mod Standing
+pub mod Leases

@@ -14,5 +14,7 @@ mod tests;
 mod witness;
 
 pub use operand::Operand;
-pub use promises::{handed_means, lapsed_means_nothing, nameless_is_dead, no_word_revived};
+pub use promises::{
+    handed_means, lapsed_means_nothing, nameless_is_dead, no_word_revived, words_pass_still,
+};
 pub use witness::Witness;

@@ -1,6 +1,6 @@
 //! What holds whatever happened, each as the contract of a function that does nothing.
 
-ghost use Rattle.jg_witness.specs.Laws.{HandedMeans, LapsedMeansNothing, NamelessIsDead, NoWordRevived};
+ghost use Rattle.jg_witness.specs.Laws.{HandedMeans, LapsedMeansNothing, NamelessIsDead, NoWordRevived, WordsPassStill};
 
 /// A word whose reference ended unseen means nothing.
 pub fn lapsed_means_nothing()
@@ -20,4 +20,9 @@ pub fn no_word_revived()
 /// What a word that means nothing is asked as names nothing.
 pub fn nameless_is_dead()
     ensures { NamelessIsDead }
+{}
+
+/// A question about words that passed passes still, until one of them is handed out anew or a fact unsettles it.
+pub fn words_pass_still()
+    ensures { WordsPassStill }
 {}
