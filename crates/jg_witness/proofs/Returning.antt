@@ -1,6 +1,6 @@
 -- What a witness stands for once a call returned, or was ended.
 use Rattle.std.proofs.Common.{ℕ, ◌≡◌, List, Option, Some, None, refl, ap, sym, ◌∙◌, subst}
-use Rattle.std.specs.Prelude.{Ok, Err, IfOk}
+use Rattle.std.specs.Prelude.{Ok, Err, IfOk, IfErr, ◌≢◌}
 use Rattle.std.specs.declared.result.Result.{Result}
 use Rattle.jg_words.specs.declared.thread.Tid.{Tid}
 use Rattle.jg_words.specs.declared.thread.EnvId.{EnvId}
@@ -13,10 +13,12 @@ use Rattle.jg_core.specs.declared.fact.Fact.{Fact}
 use Rattle.jg_core.specs.declared.says.Says.{Says}
 use Rattle.jg_core.specs.declared.says.Given.{Given}
 use Rattle.jg_core.specs.declared.kernel.Untold.{Untold}
+use Rattle.jg_core.specs.declared.kernel.Untold.TheVariants.{NoMemory}
+use Rattle.jg_core.specs.declared.asking.Answer.TheVariants.{Passed}
 use Rattle.jg_core.specs.declared.asking.Ticket.{Ticket}
 use Rattle.jg_core.specs.declared.asking.Ended.{Ended}
 use Rattle.jg_core.specs.Asking as asking
-use Rattle.jg_core.specs.Asking.{asked, foreseen, given_for}
+use Rattle.jg_core.specs.Asking.{RefusesReturn, asked, foreseen, given_for}
 use Rattle.jg_core.specs.Expected.{told}
 use Rattle.jg_core.specs.Facts.{parts_of}
 use Rattle.jg_core.specs.Implied as implied
@@ -24,7 +26,7 @@ use Rattle.jg_core.specs.Kernel.{CoreState, CoreStands, Stayed}
 use Rattle.jg_witness.specs.declared.operand.Operand.{Operand}
 use Rattle.jg_witness.specs.Events.{Event, facts_of}
 use Rattle.jg_witness.specs.Standing.{Stays, WitnessStands, both}
-use Rattle.jg_witness.specs.Words.{EndedAs, GivesCounted, Returned, arguments_of, handed_on, told_on}
+use Rattle.jg_witness.specs.Words.{EndedAs, GivesCounted, RefusesEnding, Returned, arguments_of, handed_on, told_on}
 use Rattle.jg_witness.proofs.Counted.{on_told, ticket_counted}
 use Rattle.jg_witness.proofs.Standing.{told_stands}
 
@@ -87,3 +89,19 @@ ended_as old new names bounds t env function operands xs (Ok out) is core = reco
       };
   otherwise = λ isnt. let stayed = core.otherwise isnt in (stays_both old new names stayed.0, stayed.1);
 }
+
+pub refuses_ending : (old : CoreState) (names : List (ℕ × Ref)) (bounds : Bounds) (t : Tid) (env : Option EnvId) (function : ℕ) (operands : List Operand)
+    (xs : List Argument) (result : Result Ended Untold) → ((e : List Event) → WitnessStands (both old names) e → xs ≡ arguments_of t e operands)
+    → IfErr result (asking.RefusesEnding old bounds t env function xs)
+    → IfErr result (λ why. why ≢ NoMemory → RefusesEnding (both old names) bounds t env function operands why)
+refuses_ending old names bounds t env function operands xs (Ok out) is core = tt
+refuses_ending old names bounds t env function operands xs (Err why) is core = λ other.
+    record {
+      ticket = core.ticket;
+      passed = λ e stands.
+          subst (λ (ys : List Argument). asked bounds old.setup (parts_of (facts_of e)) t env function ys ≡ Passed core.ticket) (is e stands)
+          (core.passed (facts_of e) stands.core);
+      refuses = λ e stands.
+          subst (λ (ys : List Argument). RefusesReturn old core.ticket (foreseen (parts_of (facts_of e)) core.ticket ys) why) (is e stands)
+          (core.refuses (facts_of e) stands.core);
+    }
