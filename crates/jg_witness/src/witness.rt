@@ -28,7 +28,8 @@ use std::collections::HashMap;
 use std::marker::Model;
 
 /// A core, and the names that it gave by the words that the machine handed out for them. Which references are in being
-/// the core alone knows. Contracts see the core and the names, and say for which events they stand.
+/// the core alone knows. Contracts see the core and the names, and say for which events they stand; its type keeps that
+/// they stand for some list of events.
 pub struct Witness<A: Allocator = Global> {
     core: Core<A>,
     names: Names<A>,
@@ -52,11 +53,13 @@ impl<A: Allocator> Drop for Witness<A> {
 }
 
 impl<A: Allocator> Model for Witness<A> {
-    ghost use Rattle.jg_witness.specs.Standing.{WitnessState};
+    ghost use Rattle.jg_witness.specs.Standing.{IsWitness, WitnessState, both};
 
     ghost Value = { WitnessState };
 
-    ghost view = { λ w. record { core = w.core; names = w.names.entries } };
+    ghost view = { λ w. both w.core w.names.entries };
+
+    ghost invariant = { λ w. IsWitness (both w.core w.names.entries) };
 }
 
 impl<A: Allocator + Copy> Witness<A> {
