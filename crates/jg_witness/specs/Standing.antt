@@ -29,6 +29,11 @@ pub record WitnessStands (w : WitnessState) (e : List Event) : Type 0 where
   pub named : AreNamed e
   pub names : (word : ℕ) → Keeps word e (name_at word w.names)
 
+-- what every witness keeps: it stands for some list of events
+pub record IsWitness (w : WitnessState) : Type 0 where
+  pub happened : List Event
+  pub stands : WitnessStands w happened
+
 -- whatever it stood for, it stands for that
 abbrev pub Stays : WitnessState → WitnessState → Type 0
 Stays old new = (e : List Event) → WitnessStands old e → WitnessStands new e

@@ -13,10 +13,11 @@ use Rattle.jg_core.specs.declared.fact.Fact.{Fact}
 use Rattle.jg_core.specs.declared.says.Says.{Says}
 use Rattle.jg_core.specs.declared.says.Given.{Given}
 use Rattle.jg_core.specs.declared.says.Given.TheVariants.{Nothing, Reference as GivenReference}
+use Rattle.jg_core.specs.declared.kernel.Untold.{Untold}
 use Rattle.jg_core.specs.declared.asking.Ticket.{Ticket}
 use Rattle.jg_core.specs.declared.asking.Ended.{Ended}
 use Rattle.jg_core.specs.declared.asking.Answer.TheVariants.{Passed}
-use Rattle.jg_core.specs.Asking.{asked, foreseen, given_for, is_passed}
+use Rattle.jg_core.specs.Asking.{RefusesReturn, asked, foreseen, given_for, is_passed}
 use Rattle.jg_core.specs.Expected.{told}
 use Rattle.jg_core.specs.Facts.{parts_of}
 use Rattle.jg_witness.specs.declared.operand.Operand.{Operand}
@@ -84,3 +85,12 @@ pub record EndedAs (old new : WitnessState) (bounds : Bounds) (t : Tid) (env : O
   pub passed : (ticket : Ticket) → out.answer ≡ Passed ticket → (e : List Event) → WitnessStands old e
       → EndedBy old new ticket (foreseen (parts_of (facts_of e)) ticket (arguments_of t e xs)) e out.given
   pub otherwise : is_passed out.answer ≡ false → (Stays old new) × (out.given ≡ Nothing)
+
+-- the question passed, and what it ends was refused
+pub record RefusesEnding (w : WitnessState) (bounds : Bounds) (t : Tid) (env : Option EnvId) (function : ℕ)
+    (xs : List Operand) (why : Untold) : Type 0 where
+  pub ticket : Ticket
+  pub passed : (e : List Event) → WitnessStands w e
+      → asked bounds w.core.setup (parts_of (facts_of e)) t env function (arguments_of t e xs) ≡ Passed ticket
+  pub refuses : (e : List Event) → WitnessStands w e
+      → RefusesReturn w.core ticket (foreseen (parts_of (facts_of e)) ticket (arguments_of t e xs)) why

@@ -1,18 +1,18 @@
 //! The witness.
 
-ghost use Rattle.std.specs.Prelude.{◌≡◌, ◌≢◌, ◌∷◌, [], List, false, Some, IfSome, IfOk, IfErr, OnOk, OnErr};
+ghost use Rattle.std.specs.Prelude.{◌≡◌, ◌≢◌, ◌∷◌, [], List, false, Some, IfSome, slice_index_or, IfOk, IfErr, OnOk, OnErr};
 ghost use Rattle.jg_words.specs.declared.reference.Ref.TheVariants.{To};
 ghost use Rattle.jg_rules.specs.Names.{next_ref};
 ghost use Rattle.jg_core.specs.declared.fact.Fact.TheVariants.{Hand};
 ghost use Rattle.jg_core.specs.Asking.{asked, RefusesReturn};
 ghost use Rattle.jg_core.specs.Facts as facts;
-ghost use Rattle.jg_core.specs.Facts.{parts_of};
+ghost use Rattle.jg_core.specs.Facts.{first_held, parts_of};
 ghost use Rattle.jg_core.specs.Implied as implied;
-ghost use Rattle.jg_core.specs.Kernel.{Refuses};
+ghost use Rattle.jg_core.specs.Kernel.{Keeps, Refuses};
 ghost use Rattle.jg_witness.specs.Events as events;
 ghost use Rattle.jg_witness.specs.Events.{Event, Told, Handed, Lapsed, facts_of, told_gone};
 ghost use Rattle.jg_witness.specs.Standing.{WitnessStands, Stays, Takes};
-ghost use Rattle.jg_witness.specs.Words.{arguments_of, EndedAs, Returned};
+ghost use Rattle.jg_witness.specs.Words.{arguments_of, EndedAs, RefusesEnding, Returned};
 
 use crate::being::is_in_being;
 use crate::named::{lapse, make_room_for, make_room_unless_null, put, put_given};
@@ -28,7 +28,8 @@ use std::collections::HashMap;
 use std::marker::Model;
 
 /// A core, and the names that it gave by the words that the machine handed out for them. Which references are in being
-/// the core alone knows. Contracts see the core and the names, and say for which events they stand.
+/// the core alone knows. Contracts see the core and the names, and say for which events they stand; its type keeps that
+/// they stand for some list of events.
 pub struct Witness<A: Allocator = Global> {
     core: Core<A>,
     names: Names<A>,
@@ -52,11 +53,13 @@ impl<A: Allocator> Drop for Witness<A> {
 }
 
 impl<A: Allocator> Model for Witness<A> {
-    ghost use Rattle.jg_witness.specs.Standing.{WitnessState};
+    ghost use Rattle.jg_witness.specs.Standing.{IsWitness, WitnessState, both};
 
     ghost Value = { WitnessState };
 
-    ghost view = { λ w. record { core = w.core; names = w.names.entries } };
+    ghost view = { λ w. both w.core w.names.entries };
+
+    ghost invariant = { λ w. IsWitness (both w.core w.names.entries) };
 }
 
 impl<A: Allocator + Copy> Witness<A> {
@@ -73,11 +76,17 @@ impl<A: Allocator + Copy> Witness<A> {
             arguments: Vec::new(alloc),
         }
     }
-    /// Tells that the collector let these objects go, as [`Core::gone`] does.
+
+    /// Tells that the collector let these objects go, all or none, as [`Core::gone`] does.
     pub fn gone(&mut self, objects: &[ObjId]) -> Result<(), StillHeld>
         ensures ok { OnOk result ((e : List Event) → WitnessStands self.old e
             → WitnessStands self.new (told_gone objects.now e)) }
         ensures err { OnErr result (Stays self.old self.new) }
+        ensures first { IfErr result (λ held. (e : List Event) → WitnessStands self.old e
+            → first_held self.old.core.setup (parts_of (facts_of e)) objects.now ≡ Some held.place) }
+        ensures by { IfErr result (λ held. (e : List Event) → WitnessStands self.old e
+            → Keeps self.old.core.setup (parts_of (facts_of e))
+            (slice_index_or objects.now held.place (record { 0 = 0 })).0 held.by) }
     {
         self.core.gone(objects)
     }
@@ -198,6 +207,8 @@ impl<A: Allocator + Clone> Witness<A> {
     ) -> Result<Ended, Untold>
         ensures ok { IfOk result (λ out. EndedAs self.old self.new bounds tid env function operands.now out) }
         ensures err { OnErr result (Stays self.old self.new) }
+        ensures why { IfErr result (λ why. why ≢ Untold.NoMemory
+            → RefusesEnding self.old bounds tid env function operands.now why) }
     {
         let Ok(()) = read(&self.core, &self.names, tid, operands, &mut self.arguments) else {
             return Err(Untold::NoMemory);
