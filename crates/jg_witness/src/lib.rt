@@ -9,8 +9,6 @@ mod operand;
 mod promises;
 mod reading;
 mod table;
-#[cfg(test)]
-mod tests;
 mod witness;
 
 pub use operand::Operand;

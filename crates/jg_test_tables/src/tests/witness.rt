@@ -1,9 +1,9 @@
-//! Tests of the witness with words of its own.
+//! What a witness's words mean, and what memory it takes.
 
-use crate::{Operand, Witness};
 use jg_core::{Answer, Fact, Untold};
 use jg_judge::Bounds;
 use jg_policy::Setup;
+use jg_witness::{Operand, Witness};
 use jg_words::{EnvId, Kind, ObjId, Rule, Tid};
 use linked_list_allocator::LocalHeap;
 use std::alloc::{Allocator, Global};
