@@ -34,8 +34,8 @@ abbrev pub lost_after : Option Ref → List Fact → List Fact
 lost_after None w = w
 lost_after (Some name) w = Lost name ∷ w
 
--- the facts that the events are. The machine hands out a word anew once the reference is no more that it had been handed
--- out for (JNI Specification, chapter 2, "Global and Local References"): so that one ended, if it was in being
+-- the facts that the events are. The machine hands out a word anew once the reference is no more that it was handed out
+-- for (JNI Specification, chapter 2, "Global and Local References"): so that one ended, if it was in being
 abbrev pub facts_of : List Event → List Fact
 facts_of [] = []
 facts_of (Told x ∷ e) = x ∷ facts_of e

@@ -33,7 +33,7 @@ abbrev pub or_dead : Tid → Option Ref → Ref
 or_dead t None = dead_of t
 or_dead t (Some name) = name
 
--- the reference that a word is asked as: 0 is NULL (JNI Specification, chapter 3, "Reference Types")
+-- the reference that a word is asked as: 0 is NULL
 abbrev pub named_for : Tid → List Event → ℕ → Ref
 named_for t e word = if word == 0 then Null else or_dead t (meaning word e)
 
@@ -71,7 +71,8 @@ pub record Returned (old new : WitnessState) (ticket : Ticket) (says : Says) (wo
       → out ≡ given_for old.core.setup (parts_of (facts_of e)) ticket fact
 
 -- what the machine is going to say of a call that ends something implied this, if anything: it was told
-pub record EndedBy (old new : WitnessState) (ticket : Ticket) (says : Says) (e : List Event) (out : Given) : Type 0 where
+pub record EndedBy (old new : WitnessState) (ticket : Ticket) (says : Says) (e : List Event)
+    (out : Given) : Type 0 where
   pub fact : Option Fact
   pub is : told ticket.tid ticket.expected says ≡ Some fact
   pub stands : WitnessStands new (told_on fact e)

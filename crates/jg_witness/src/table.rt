@@ -44,8 +44,8 @@ fn sweep<A: Allocator + Clone>(names: &mut Names<A>, view: &View<'_, A, Objects<
     names.retain(|_, name| is_in_being(view, *name));
 }
 
-/// How many names there may be until the next sweep, where so many are in being: twice as many, so that a sweep looks at
-/// no more than twice what was added since the last one. But the fewest are never swept.
+/// How many names there may be until the next sweep, where so many are in being: twice as many, so that a sweep looks
+/// at no more than twice what was added since the last one. But the fewest are never swept.
 fn next_most(fewest: usize, live: usize) -> usize {
     live.saturating_mul(2).max(fewest).max(FEWEST)
 }
