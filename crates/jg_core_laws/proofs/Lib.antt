@@ -1,5 +1,5 @@
 mod Callers
-mod Meanings
+pub mod Meanings
 mod Classes
-mod Judged
-mod Leases
+pub mod Judged
+pub mod Leases
