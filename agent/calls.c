@@ -301,9 +301,11 @@ struct reference call_resolve(struct call *call, jobject handle, int wants_objec
     }
     int is_known = names_find(address_of(handle), known);
     call->has_known = (uint8_t)is_known;
+    int is_believed = is_known && known->state == NAME_LIVE && known->is_believed;
+    call->is_doubtful |= (uint8_t)(!is_believed || known->name.kind == JG_WEAK || is_foreign(call, known));
     if (is_known && known->state == NAME_HELD) {
         it.name = known->name;
-    } else if (is_known && known->state == NAME_LIVE && (known->is_believed || !call->is_own_env)) {
+    } else if (is_believed || (is_known && known->state == NAME_LIVE && !call->is_own_env)) {
         it.name = known->name;
         it.object = is_foreign(call, known) ? NULL : known->object;
     } else if (call->is_own_env) {
@@ -441,6 +443,7 @@ void call_id(struct call *call, const void *id, enum subject subject, char lette
     if (call->last.object != NULL && call->is_own_env) {
         fit = ids_fit(call->env, id, &question);
     }
+    call->is_doubtful |= fit != ID_FITS;
     if ((fit == ID_UNKNOWN && !is_from_start) || (fit != ID_OTHER_RESULT && call->site->library->is_of_jdk)) {
         /* The JDK's own libraries were handed theirs before the agent came, where it is loaded later. */
         fit = ID_FITS;
@@ -457,7 +460,9 @@ void call_id(struct call *call, const void *id, enum subject subject, char lette
     call_operand(call, jg_id(fit == ID_FITS));
 }
 
+/* Whose words a lease doesn't have. */
 static void take_argument(struct call *call, jobject handle) {
+    call->is_doubtful = 1;
     call_operand_of(call, call_resolve(call, handle, 0).name, handle);
 }
 
@@ -692,6 +697,21 @@ static void note_pending(struct call *call, jg_value says, const struct object *
     } else if (call->row->effect == EFFECT_CALMS) {
         call->thread->is_pending = 0;
     }
+}
+
+void call_threw(struct thread *thread, uint32_t function, JNIEnv *env, const struct site *site) {
+    struct call call;
+    call_opens(&call, function, thread, site);
+    call.env = env;
+    call.is_own_env = 1;
+    struct object *thrown = thrown_by(&call, jg_nothing());
+    if (thrown == NULL) {
+        return;
+    }
+    core_lock();
+    core_tell_of(jg_fact_of(JG_RAISED, thread->number, jg_nothing(), jg_null(), 0, 0), thrown, NULL);
+    core_unlock();
+    note_pending(&call, jg_threw(jg_object(thrown->number)), thrown);
 }
 
 /* Whether an answer is to be told: no fact comes of most calls that can't have thrown. */

@@ -8,6 +8,7 @@
  */
 #include "names.h"
 #include "forks.h"
+#include "leases.h"
 #include "objects.h"
 #include "spin.h"
 
@@ -116,6 +117,9 @@ int names_put(const struct name *name, struct name *before) {
     int was_live = place->handle != 0 && place->state == NAME_LIVE;
     part->count += place->handle == 0;
     *before = *place;
+    if (was_live) {
+        leases_end_name(before);
+    }
     *place = *name;
     place->is_in_ring = before->handle != 0 && before->is_in_ring;
     objects_hold(name->object);
@@ -130,6 +134,9 @@ void names_forget(uintptr_t handle) {
     struct object *object = NULL;
     if (place != NULL && place->handle == handle) {
         object = place->object;
+        if (place->state == NAME_LIVE) {
+            leases_end_name(place);
+        }
         remove_name(part, place);
     }
     spin_unlock(&part->lock);
@@ -189,6 +196,7 @@ int names_end(uintptr_t handle, uint64_t number, enum state state, uint16_t by, 
     struct name *name = name_of(part, handle, number, NAME_LIVE);
     struct object *object = NULL;
     if (name != NULL) {
+        leases_end_name(name);
         name->ended = site;
         name->ended_by = by;
         name->state = (uint8_t)state;

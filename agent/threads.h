@@ -82,6 +82,19 @@ struct memo {
     jg_ticket ticket;
 };
 
+enum { LEASE_BITS = 7, LEASES = 1 << LEASE_BITS, LEASED_WORDS = 3, LOCAL_WORDS = 64 };
+
+/* A question that passed, and passes still while the sum is the same (leases.h). */
+struct lease {
+    uintptr_t at; /* the return address of its wrapper; 0: none */
+    uint64_t sum;
+    uintptr_t words[LEASED_WORDS];
+    const struct library *library;
+    const struct site *site;
+    uint32_t function;
+    uint32_t length; /* of the object that its first operand names */
+};
+
 struct thread {
     struct thread *next, *before; /* in the list of all */
     uint32_t number;              /* 0: it has none now */
@@ -111,6 +124,9 @@ struct thread {
     const struct library *last_library; /* of its last call in the native method that it is in, or NULL */
     struct recent_site recent[RECENT_SITES];
     struct memo memos[MEMOS];
+    uint64_t unsettled;          /* how many facts of it were told that may end its leases */
+    uint64_t ended[LOCAL_WORDS]; /* how often names of its locals ended, by their words */
+    struct lease leases[LEASES];
     uint64_t repeated; /* questions that were answered by these */
 };
 
@@ -177,7 +193,7 @@ static inline int threads_is_unsure(const struct thread *thread) {
 }
 
 /* Whether nothing need be told before a call: the same as threads_catch_up, where there is nothing to catch up. */
-static inline int threads_is_caught_up(const struct thread *thread, const JNIEnv *env, uintptr_t stack) {
+ALWAYS_INLINE int threads_is_caught_up(const struct thread *thread, const JNIEnv *env, uintptr_t stack) {
     const struct activation *newest = thread->depth ? &thread->activations[thread->depth - 1] : NULL;
     return thread->is_attached && !threads_is_unsure(thread) && thread->waiting.object == NULL && env == thread->env &&
            (newest == NULL || (newest->is_told && newest->stack > stack));
