@@ -82,6 +82,17 @@ int call_begins(struct call *call, uint32_t function, JNIEnv *env, uintptr_t at,
     return begin(call, function, env, thread, site, frame);
 }
 
+void call_repeats(struct call *call, const struct asked *it, const struct lease *lease, JNIEnv *env) {
+    struct thread *thread = threads_self();
+    call_opens(call, it->function, thread, sites_caller(thread, it->at, it->frame));
+    call->env = env;
+    call->frame = it->frame;
+    call->is_own_env = 1;
+    call->is_asked = 1;
+    call->is_leased = 1;
+    call->first.object = lease->object;
+}
+
 void call_operand_of(struct call *call, jg_value operand, jobject handle) {
     if (call->count == FEW_OPERANDS && call->more == NULL) {
         struct kept kept;
@@ -699,25 +710,24 @@ static void note_pending(struct call *call, jg_value says, const struct object *
     }
 }
 
-void call_threw(struct thread *thread, uint32_t function, JNIEnv *env, const struct site *site) {
-    struct call call;
-    call_opens(&call, function, thread, site);
-    call.env = env;
-    call.is_own_env = 1;
-    struct object *thrown = thrown_by(&call, jg_nothing());
-    if (thrown == NULL) {
-        return;
-    }
-    core_lock();
-    core_tell_of(jg_fact_of(JG_RAISED, thread->number, jg_nothing(), jg_null(), 0, 0), thrown, NULL);
-    core_unlock();
-    note_pending(&call, jg_threw(jg_object(thrown->number)), thrown);
-}
-
 /* Whether an answer is to be told: no fact comes of most calls that can't have thrown. */
 static int is_telling(const struct call *call, jg_value says) {
     return call->is_asked &&
            (call->verdict.rule != JG_PASSED || call->row->effect != EFFECT_NOTHING || !says_done(call, says));
+}
+
+/* The answer of a call that passed. One that has a lease has no ticket, and its fact is the same. */
+static void tell_passed(struct call *call, jg_value says, struct object *object, jg_value *given) {
+    uint32_t thread = call->thread->number;
+    core_lock();
+    if (!call->is_leased) {
+        core_did(&call->verdict.ticket, says, object, given);
+    } else if (says.kind == JG_THREW) {
+        core_tell_of(jg_fact_of(JG_RAISED, thread, jg_nothing(), jg_null(), 0, 0), object, given);
+    } else if (says.kind == JG_OBJECT) {
+        core_tell_of(jg_fact_of(JG_GOT, thread, jg_nothing(), jg_null(), call->row->detail, 0), object, given);
+    }
+    core_unlock();
 }
 
 static void tell_answer(struct call *call, jg_value says, struct object *object, jg_value *given) {
@@ -729,11 +739,19 @@ static void tell_answer(struct call *call, jg_value says, struct object *object,
     if (call->verdict.rule != JG_PASSED) {
         tell_denied(call, says, object, given);
     } else if (!call->is_ending && (call->row->effect != EFFECT_NOTHING || thrown != NULL)) {
-        core_lock();
-        core_did(&call->verdict.ticket, says, object, given);
-        core_unlock();
+        tell_passed(call, says, object, given);
     }
     note_pending(call, says, object);
+}
+
+void call_threw(struct thread *thread, uint32_t function, JNIEnv *env, const struct site *site) {
+    struct call call;
+    jg_value given;
+    call_opens(&call, function, thread, site);
+    call.env = env;
+    call.is_own_env = 1;
+    call.is_leased = 1;
+    tell_answer(&call, jg_nothing(), NULL, &given);
 }
 
 void call_says(struct call *call, jg_value says, struct object *object, jg_value *given) {

@@ -73,6 +73,7 @@ struct call {
     uint8_t is_misread;  /* the function answers a reference, and the member of the ID is none or returns none */
     uint8_t is_lost;     /* an operand couldn't be named, by fault of the agent */
     uint8_t is_doubtful; /* it passes or not by more than the words of its operands (leases.c) */
+    uint8_t is_leased;   /* it passed by a lease, and has no ticket */
     jg_value env_name;
     struct reference first;        /* the first operand that is a reference */
     struct reference last;         /* the last one but for arguments, which an ID is of */
@@ -141,7 +142,10 @@ void call_says(struct call *call, jg_value says, struct object *object, jg_value
 /* The machine said how long the object is: the core was told the same, else the mapping is wrong. */
 void call_checks_length(struct call *call, jsize length);
 
-/* A call of this function at this place was made without a question (leases.h), and threw. */
+/* A call that has a lease, and hands out a reference. */
+void call_repeats(struct call *call, const struct asked *it, const struct lease *lease, JNIEnv *env);
+
+/* A call of this function at this place had a lease, and threw. */
 void call_threw(struct thread *thread, uint32_t function, JNIEnv *env, const struct site *site);
 
 /* The call isn't made, or wasn't made by this machine: what it took is given back. */

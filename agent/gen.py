@@ -67,9 +67,9 @@ PLAIN = {'OBJECT', 'CLASS', 'PLAIN_CLASS', 'INSTANCE_CLASS', 'THROWABLE', 'STRIN
 FAMILIES = {f'Elements({item})': f'JG_{item}S' for item in TYPES} | {
     'Chars': 'JG_STRING', 'UtfChars': 'JG_UTF', 'ArrayCritical': 'JG_CRITICAL', 'StringCritical': 'JG_CRITICAL_STRING'}
 IDS = {'Field', 'AnyField', 'Method', 'Constructor', 'AnyMethod'}
-# Operands of which a lease has no words: numbers that no rule bounds in the agent, values that their types bound, and
-# arguments, which are no references where a call has a lease.
-BEYOND_WORDS = {'Number', 'Count', 'Value', 'Items', 'Arguments'}
+# Operands of which a lease has no words: numbers that no rule bounds in the agent but from below, values that their
+# types bound, and arguments, which are no references where a call has a lease.
+BEYOND_WORDS = {'Number', 'Count', 'Length', 'Value', 'Items', 'Arguments'}
 LEASED_WORDS = 3
 EFFECTS = ['Nothing', 'Hands', 'Ends', 'Lends', 'GivesBack', 'Pushes', 'Pops', 'Ensures', 'Raises', 'Calms', 'Owns',
            'Frees', 'Attaches', 'Detaches', 'Enters', 'Leaves', 'Loads', 'Links', 'Unlinks', 'Collects']
@@ -108,7 +108,7 @@ class Wrapper:
     def __init__(self, function, row, is_newer):
         self.function, self.row, self.is_newer = function, row, is_newer
         self.rest = list(function.parameters)
-        self.lines, self.references, self.id, self.start, self.list_form = [], [], None, None, False
+        self.lines, self.references, self.lengths, self.id, self.start, self.list_form = [], [], [], None, None, False
 
     def next(self):
         """The next parameter that is an operand: `isCopy` and room for an answer are none."""
@@ -160,7 +160,9 @@ class Wrapper:
         elif word == 'Arguments':
             self.arguments()
         elif word in ('Capacity', 'Length', 'Count', 'Mode'):
-            self.lines.append(f'call_number(&call, {self.next()[1]});')
+            _, name = self.next()
+            self.lengths += [name] * (word == 'Length')
+            self.lines.append(f'call_number(&call, {name});')
         elif word == 'Number':
             self.start = self.next()[1]
             self.lines.append(f'call_any(&call, {self.start});')
@@ -222,32 +224,38 @@ class Wrapper:
     # Leases.
 
     def is_leased(self):
-        """Whether a question for the function may have a lease: the function changes nothing that is, and the words of
-        its references and IDs say all that the verdict depends on."""
+        """Whether a question for the function may have a lease: the function ends nothing that is, and the words of its
+        references and IDs say all that the verdict depends on."""
         takes = self.row.takes
         words = [word for word, _ in takes if word in PLAIN | {'Nullable'} | IDS]
-        return (self.row.effect.name == 'Nothing' and self.row.takes_env and not self.noted() and
-                len(words) <= LEASED_WORDS and ('Items', 'BOOLEAN') not in takes and
-                all(word in BEYOND_WORDS or word in words for word, _ in takes))
+        return (self.row.effect.name in ('Nothing', 'Hands') and self.row.takes_env and len(words) <= LEASED_WORDS and
+                ('Items', 'BOOLEAN') not in takes and all(word in BEYOND_WORDS or word in words for word, _ in takes))
 
     def asked(self, caller):
         words = [f'(uintptr_t){name}' for name in self.references + [self.id] * (self.id is not None)]
         return (f'const struct asked asked = {{{caller}, JG_FN_{self.row.name}, {len(self.references)}, '
                 f'{{{", ".join(words) or "0"}}}}};')
 
+    def bounded(self):
+        """What of the numbers is looked at each time."""
+        return [*(f'{name} <= JNI_TRUE' for kind, name in self.function.parameters
+                  if kind == 'jboolean' and ('Value', 'BOOLEAN') in self.row.takes),
+                *(f'{name} >= 0' for name in self.lengths)]
+
     def repeated(self):
         """The call while its lease holds."""
-        booleans = [name for kind, name in self.function.parameters
-                    if kind == 'jboolean' and ('Value', 'BOOLEAN') in self.row.takes]
         done = 'return;' if self.function.result == 'void' else 'return result;'
+        made = [*self.begun(), self.resulting(), *self.ended(), *self.noted()]
         yield self.asked('CALLER')
-        yield 'const struct lease *lease = leases_find(&asked, env);'
-        yield f'if (lease != NULL{"".join(f" && {name} <= JNI_TRUE" for name in booleans)}) {{'
-        if self.row.throws != 'Never' or self.row.runs == 'Java':
-            yield from ['const struct site *site = lease->site;', *self.begun(), self.resulting(), *self.ended(),
-                        f'leases_made(JG_FN_{self.row.name}, env, site);', done]
+        bounded, found = ' && '.join(self.bounded()), 'leases_find(&asked, env)'
+        yield f'const struct lease *lease = {f"{bounded} ? {found} : NULL" if bounded else found};'
+        yield 'if (lease != NULL) {'
+        if self.row.effect.name == 'Hands':
+            yield from ['struct call call;', 'call_repeats(&call, &asked, lease, env);', *made, *self.returned()]
+        elif self.row.throws != 'Never' or self.row.runs == 'Java':
+            yield from [*made, f'leases_made(JG_FN_{self.row.name}, env, CALLER);', done]
         elif self.row.name in LENGTHS:
-            yield from [self.resulting(), 'if (lease->length == (uint32_t)result) {', done, '}']
+            yield from [*made, 'if (leases_is_long(lease, result)) {', done, '}']
         else:
             yield from self.untouched()
         yield '}'

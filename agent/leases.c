@@ -5,7 +5,6 @@
 #include "calls.h"
 #include "core.h"
 #include "names.h"
-#include "objects.h"
 
 _Atomic uint64_t leases_unsettled = 1;
 _Atomic uint64_t leases_globals[GLOBAL_WORDS];
@@ -16,7 +15,7 @@ _Atomic uint64_t leases_globals[GLOBAL_WORDS];
  */
 static int is_of_words(const struct call *call) {
     return call->is_asked && call->verdict.rule == JG_PASSED && !call->is_doubtful && call->notice == NULL &&
-           call->is_own_env && !core_needs_all();
+           call->is_own_env && !call->is_misread && call->unseen == NULL && !core_needs_all();
 }
 
 void leases_take(const struct call *call, const struct asked *it, uint64_t sum) {
@@ -26,14 +25,15 @@ void leases_take(const struct call *call, const struct asked *it, uint64_t sum) 
         return;
     }
     struct lease *lease = leases_place(thread, it);
-    *lease = (struct lease){.at = it->at, .sum = sum, .library = thread->last_library, .site = call->site};
+    *lease = (struct lease){.at = it->at, .sum = sum, .library = thread->last_library};
+    lease->object = call->first.object;
     lease->function = it->function;
-    lease->length = call->first.object ? call->first.object->length : 0;
     memcpy(lease->words, it->words, sizeof lease->words);
 }
 
-void leases_threw(uint32_t function, JNIEnv *env, const struct site *site) {
-    call_threw(threads_self(), function, env, site);
+void leases_threw(uint32_t function, JNIEnv *env, uintptr_t at, uintptr_t frame) {
+    struct thread *thread = threads_self();
+    call_threw(thread, function, env, sites_caller(thread, at, frame));
 }
 
 void leases_unsettle(uint32_t thread) {

@@ -1,7 +1,7 @@
 /*
- * leases.h: questions that passed, and would pass again. A lease is of one question of a thread: its function, the words
- * of its references and IDs, and the place that asked. While it holds, the same call is made without looking up what
- * its words mean, and without asking the core (docs/AGENT.md, "Leases").
+ * leases.h: questions that passed, and would pass again. A lease is of one question of a thread: its function, the
+ * words of its references and IDs, and the place that asked. While it holds, the same call is made without looking up
+ * what its words mean, and without asking the core (docs/AGENT.md, "Leases").
  *
  * A lease has the sum of what was counted when its question began: of the thread what unsettles each of its questions,
  * and of each word how often a name of such a word ended. None of these counts falls. So while the sum is the same,
@@ -12,6 +12,7 @@
 
 #include "agent.h"
 #include "caller_state.h"
+#include "objects.h"
 #include "sites.h"
 #include "threads.h"
 
@@ -77,17 +78,23 @@ ALWAYS_INLINE const struct lease *leases_find(const struct asked *it, const JNIE
     return lease;
 }
 
+/* Whether the first operand is as long as the machine says. Else the core is asked, and told (call_checks_length). */
+static inline int leases_is_long(const struct lease *lease, jsize length) {
+    return lease->object != NULL && lease->object->length == (uint32_t)length;
+}
+
 /* The call passed, or was passed on: it has a lease from now on, if it can. The sum is that of its beginning. */
 void leases_take(const struct call *call, const struct asked *it, uint64_t sum);
 
-/* The machine made a call that had a lease, and may have thrown: then that is told as left from this place. */
-void leases_threw(uint32_t function, JNIEnv *env, const struct site *site);
+/* The machine made a call that had a lease, and threw: tells it, as left from this place. */
+void leases_threw(uint32_t function, JNIEnv *env, uintptr_t at, uintptr_t frame);
 
-static inline void leases_made(uint32_t function, JNIEnv *env, const struct site *site) {
+/* The machine made such a call, and may have thrown. */
+static inline void leases_made(uint32_t function, JNIEnv *env, uintptr_t at, uintptr_t frame) {
     struct kept kept;
     keep(&kept);
     if (machine->ExceptionCheck(env)) {
-        leases_threw(function, env, site);
+        leases_threw(function, env, at, frame);
     }
     restore(&kept);
 }

@@ -90,9 +90,8 @@ struct lease {
     uint64_t sum;
     uintptr_t words[LEASED_WORDS];
     const struct library *library;
-    const struct site *site;
+    struct object *object; /* that its first operand names */
     uint32_t function;
-    uint32_t length; /* of the object that its first operand names */
 };
 
 struct thread {
