@@ -18,6 +18,8 @@ public class Leases {
         }
     }
 
+    void takes(Object any) {}
+
     static void enters(String name, int turn) {
         entered(name, turn);
     }

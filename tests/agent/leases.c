@@ -366,6 +366,65 @@ static void reused_global(JNIEnv *env, struct given *it) {
     }
 }
 
+/* ---- what calls hand out and are handed ---- */
+
+/* Each is a reference of its own, of which the third lives. */
+SAME(at_handed)
+static void handed(JNIEnv *env, struct given *it) {
+    jobject made[4];
+    for (int at = 0; at < 4; at++) {
+        made[at] = E->GetObjectArrayElement(env, it->texts, at % 3);
+        at_handed(env, made[at]);
+    }
+    E->DeleteLocalRef(env, made[3]);
+    at_handed(env, made[2]);
+    at_handed(env, made[3]);
+}
+
+SAME(at_handed_global)
+static void handed_global(JNIEnv *env, struct given *it) {
+    jobject made[4];
+    for (int at = 0; at < 4; at++) {
+        made[at] = E->NewGlobalRef(env, it->text);
+        at_handed_global(env, made[at]);
+    }
+    for (int at = 0; at < 4; at++) {
+        E->DeleteGlobalRef(env, made[at]);
+    }
+    at_handed_global(env, made[3]);
+}
+
+SAME(at_handed_none)
+static void handed_none(JNIEnv *env, struct given *it) {
+    static const jint PLACES[] = {0, 1, 2, 99};
+    for (int at = 0; at < 4; at++) {
+        E->GetObjectArrayElement(env, it->texts, PLACES[at]);
+    }
+    at_handed_none(env, it->text);
+    E->ExceptionClear(env);
+    at_handed_none(env, it->text);
+}
+
+static void length(JNIEnv *env, struct given *it) {
+    static const jsize LENGTHS[] = {3, 4, 0, -1};
+    (void)it;
+    for (int at = 0; at < 4; at++) {
+        E->NewIntArray(env, LENGTHS[at]);
+    }
+    E->ExceptionClear(env);
+}
+
+static void passed(JNIEnv *env, struct given *it) {
+    jmethodID takes = E->GetMethodID(env, it->class, "takes", "(Ljava/lang/Object;)V");
+    jobject made = E->NewLocalRef(env, it->text);
+    for (int at = 0; at < 4; at++) {
+        if (at == 3) {
+            E->DeleteLocalRef(env, made);
+        }
+        E->CallVoidMethod(env, it->object, takes, made);
+    }
+}
+
 /* ---- exceptions and regions ---- */
 
 static void throw_here(JNIEnv *env) {
@@ -647,6 +706,11 @@ static const struct {
     {"reused", reused, "9 GetArrayLength", ""},
     {"reused_local", reused_local, "9 GetArrayLength", "Q"},
     {"reused_global", reused_global, "9 GetArrayLength", "Q"},
+    {"handed", handed, "6 IsSameObject", ""},
+    {"handed_global", handed_global, "6 IsSameObject", ""},
+    {"handed_none", handed_none, "4 IsSameObject", ""},
+    {"length", length, "12 NewIntArray", ""},
+    {"passed", passed, "6 CallVoidMethod", ""},
     {"thrown", thrown, "4 IsSameObject", ""},
     {"thrown_beside", thrown_beside, "4 IsSameObject", ""},
     {"called", called, "4 IsSameObject", ""},
