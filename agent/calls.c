@@ -716,18 +716,14 @@ static int is_telling(const struct call *call, jg_value says) {
            (call->verdict.rule != JG_PASSED || call->row->effect != EFFECT_NOTHING || !says_done(call, says));
 }
 
-/* The answer of a call that passed. One that has a lease has no ticket, and its fact is the same. */
-static void tell_passed(struct call *call, jg_value says, struct object *object, jg_value *given) {
+/* A call that has a lease has no ticket: the fact that one would stand for. Between core_lock and core_unlock. */
+static void tell_leased(struct call *call, jg_value says, struct object *object, jg_value *given) {
     uint32_t thread = call->thread->number;
-    core_lock();
-    if (!call->is_leased) {
-        core_did(&call->verdict.ticket, says, object, given);
-    } else if (says.kind == JG_THREW) {
+    if (says.kind == JG_THREW) {
         core_tell_of(jg_fact_of(JG_RAISED, thread, jg_nothing(), jg_null(), 0, 0), object, given);
     } else if (says.kind == JG_OBJECT) {
         core_tell_of(jg_fact_of(JG_GOT, thread, jg_nothing(), jg_null(), call->row->detail, 0), object, given);
     }
-    core_unlock();
 }
 
 static void tell_answer(struct call *call, jg_value says, struct object *object, jg_value *given) {
@@ -739,7 +735,13 @@ static void tell_answer(struct call *call, jg_value says, struct object *object,
     if (call->verdict.rule != JG_PASSED) {
         tell_denied(call, says, object, given);
     } else if (!call->is_ending && (call->row->effect != EFFECT_NOTHING || thrown != NULL)) {
-        tell_passed(call, says, object, given);
+        core_lock();
+        if (call->is_leased) {
+            tell_leased(call, says, object, given);
+        } else {
+            core_did(&call->verdict.ticket, says, object, given);
+        }
+        core_unlock();
     }
     note_pending(call, says, object);
 }

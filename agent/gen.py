@@ -268,9 +268,11 @@ class Wrapper:
     def ended(self):
         return ['va_end(arguments);'] if self.list_form else []
 
-    def judged(self):
+    def body(self):
         """The call, with a question if its place is judged."""
         is_leased = self.is_leased()
+        for word, what in self.row.takes:
+            self.operand(word, what)
         yield 'struct call call;'
         yield f'if (!call_begins(&call, JG_FN_{self.row.name}, env, at, frame)) {{'
         yield from self.untouched()
@@ -322,11 +324,9 @@ class Wrapper:
     def text(self):
         if self.row.effect.name == 'GivesBack':
             return laid_out(declared(self.function), self.released())
-        for word, what in self.row.takes:
-            self.operand(word, what)
         attribute = '__attribute__((noinline)) ' if self.is_leased() else ''
-        return (laid_out(declared_judged(self.function, attribute), self.judged()) + '\n' +
-                laid_out(declared(self.function), self.wrapped()))
+        judged = laid_out(declared_judged(self.function, attribute), self.body())
+        return judged + '\n' + laid_out(declared(self.function), self.wrapped())
 
 
 def laid_out(head, lines):
