@@ -14,9 +14,15 @@ public class Bench {
     static native double lengths(String text, int count);
     static native double locals(String text, int count);
     static native double fields(Object object, int count);
+    static native double calls(Object object, int count);
+    static native double items(Object[] array, int count);
     static native double criticals(int[] array, int count);
     static native double attached(String text, int count);
     static native void empty();
+
+    int answer() {
+        return number;
+    }
 
     interface Sample {
         double take(int count) throws Exception;
@@ -95,6 +101,8 @@ public class Bench {
         median("GetStringLength", samples, count, n -> lengths("a text", n));
         median("NewLocalRef+DeleteLocalRef", samples, count, n -> locals("a text", n));
         median("GetIntField", samples, count, n -> fields(object, n));
+        median("CallIntMethod+ExceptionCheck", samples, count, n -> calls(object, n));
+        median("GetObjectArrayElement+DeleteLocalRef", samples, count, n -> items(new Object[] {"text"}, n));
         median("critical-64KB", samples, Math.max(1, count / 20), n -> criticals(array, n));
         median("empty-native", samples, count, n -> empties(n));
         median("GetStringLength-attached", samples, count, n -> attached("a text", n));

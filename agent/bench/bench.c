@@ -41,6 +41,25 @@ JNIEXPORT jdouble JNICALL Java_Bench_fields(JNIEnv *env, jclass class, jobject o
     return (now() - begun) / count;
 }
 
+JNIEXPORT jdouble JNICALL Java_Bench_calls(JNIEnv *env, jclass class, jobject object, jint count) {
+    jmethodID answer = E->GetMethodID(env, class, "answer", "()I");
+    double begun = now();
+    for (jint at = 0; at < count; at++) {
+        E->CallIntMethod(env, object, answer);
+        E->ExceptionCheck(env);
+    }
+    return (now() - begun) / count;
+}
+
+JNIEXPORT jdouble JNICALL Java_Bench_items(JNIEnv *env, jclass class, jobjectArray array, jint count) {
+    double begun = now();
+    (void)class;
+    for (jint at = 0; at < count; at++) {
+        E->DeleteLocalRef(env, E->GetObjectArrayElement(env, array, 0));
+    }
+    return (now() - begun) / count;
+}
+
 JNIEXPORT jdouble JNICALL Java_Bench_criticals(JNIEnv *env, jclass class, jintArray array, jint count) {
     double begun = now();
     (void)class;
