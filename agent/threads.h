@@ -121,11 +121,11 @@ struct thread {
     int has_entered;        /* it entered a monitor by MonitorEnter in this session */
     int endings;            /* how often the destructor of its key was called */
     const struct library *last_library; /* of its last call in the native method that it is in, or NULL */
-    struct recent_site recent[RECENT_SITES];
-    struct memo memos[MEMOS];
     uint64_t unsettled;          /* how many facts of it were told that may end its leases */
     uint64_t ended[LOCAL_WORDS]; /* how often names of its locals ended, by their words */
     struct lease leases[LEASES];
+    struct recent_site recent[RECENT_SITES];
+    struct memo memos[MEMOS];
     uint64_t repeated; /* questions that were answered by these */
 };
 
