@@ -300,13 +300,21 @@ static void again(JNIEnv *env, struct given *it) {
     E->DeleteGlobalRef(env, made);
 }
 
-SAME(at_detached)
+/* The functions are read while the environment is there: where it stood the machine may have nothing any more. */
+static __attribute__((noinline)) void at_detached(const struct JNINativeInterface_ *functions, JNIEnv *env,
+                                                  jobject it) {
+    for (int at = 0; at < TIMES; at++) {
+        functions->IsSameObject(env, it, NULL);
+    }
+}
+
 static void *detaches(void *reference) {
     JNIEnv *env = NULL;
     (*vm)->AttachCurrentThread(vm, (void **)&env, NULL);
-    at_detached(env, reference);
+    const struct JNINativeInterface_ *functions = *env;
+    at_detached(functions, env, reference);
     (*vm)->DetachCurrentThread(vm);
-    at_detached(env, reference);
+    at_detached(functions, env, reference);
     return NULL;
 }
 
