@@ -616,14 +616,36 @@ static void unloaded(JNIEnv *env, struct given *it) {
 
 /* ---- places ---- */
 
+static void plug(JNIEnv *env, jobject it, const char *name) {
+    void *library = open_library(name);
+    void (*uses)(JNIEnv *, jobject);
+    *(void **)&uses = dlsym(library, "uses");
+    uses(env, it);
+    dlclose(library);
+}
+
 /* The calls of the second library aren't judged, also where it stands at the address of the first. */
 static void plugged(JNIEnv *env, struct given *it) {
-    for (int turn = 0; turn < 6; turn++) {
-        void *library = open_library(turn % 2 == 0 ? "leasedone" : "leasedtwo");
-        void (*uses)(JNIEnv *, jobject);
-        *(void **)&uses = dlsym(library, "uses");
-        uses(env, it->text);
-        dlclose(library);
+    for (int turn = 0; turn < 3; turn++) {
+        plug(env, it->text, "leasedone");
+        E->GetVersion(env);
+        plug(env, it->text, "leasedtwo");
+        E->GetVersion(env);
+    }
+}
+
+static void asks_version(JNIEnv *env, struct other *it) {
+    (void)it;
+    E->GetVersion(env);
+}
+
+/* The same, where another thread's call shows that the first one is gone. */
+static void plugged_beside(JNIEnv *env, struct given *it) {
+    for (int turn = 0; turn < 3; turn++) {
+        plug(env, it->text, "leasedone");
+        run_other(env, asks_version, NULL);
+        plug(env, it->text, "leasedtwo");
+        run_other(env, asks_version, NULL);
     }
 }
 
@@ -737,6 +759,7 @@ static const struct {
     {"weak", weak, "8 GetArrayLength", "S"},
     {"unloaded", unloaded, "10 GetIntField", ""},
     {"plugged", plugged, "", ""},
+    {"plugged_beside", plugged_beside, "", ""},
     {"many", many, "", ""},
 };
 
