@@ -422,15 +422,18 @@ static void length(JNIEnv *env, struct given *it) {
     E->ExceptionClear(env);
 }
 
+static __attribute__((noinline)) void at_passed(JNIEnv *env, jobject it, jmethodID takes, jobject passed) {
+    for (int at = 0; at < TIMES; at++) {
+        E->CallVoidMethod(env, it, takes, passed);
+    }
+}
+
 static void passed(JNIEnv *env, struct given *it) {
     jmethodID takes = E->GetMethodID(env, it->class, "takes", "(Ljava/lang/Object;)V");
     jobject made = E->NewLocalRef(env, it->text);
-    for (int at = 0; at < 4; at++) {
-        if (at == 3) {
-            E->DeleteLocalRef(env, made);
-        }
-        E->CallVoidMethod(env, it->object, takes, made);
-    }
+    at_passed(env, it->object, takes, made);
+    E->DeleteLocalRef(env, made);
+    at_passed(env, it->object, takes, made);
 }
 
 /* ---- exceptions and regions ---- */
@@ -567,21 +570,24 @@ static void value(JNIEnv *env, struct given *it) {
     }
 }
 
-static void class_of_static(JNIEnv *env, struct given *it) {
-    jclass made = E->NewGlobalRef(env, it->class);
-    jfieldID shared = E->GetStaticFieldID(env, made, "shared", "I");
-    for (int at = 0; at < 4; at++) {
-        if (at == 3) {
-            E->DeleteGlobalRef(env, made);
-        }
-        E->GetStaticIntField(env, made, shared);
+static __attribute__((noinline)) void at_static(JNIEnv *env, jclass class, jfieldID id) {
+    for (int at = 0; at < TIMES; at++) {
+        E->GetStaticIntField(env, class, id);
     }
 }
 
+static void class_of_static(JNIEnv *env, struct given *it) {
+    jclass made = E->NewGlobalRef(env, it->class);
+    jfieldID shared = E->GetStaticFieldID(env, made, "shared", "I");
+    at_static(env, made, shared);
+    E->DeleteGlobalRef(env, made);
+    at_static(env, made, shared);
+}
+
+LENGTH(at_null)
 static void null(JNIEnv *env, struct given *it) {
-    for (int at = 0; at < 4; at++) {
-        E->GetArrayLength(env, at < 3 ? it->numbers : NULL);
-    }
+    at_null(env, it->numbers);
+    at_null(env, NULL);
 }
 
 LENGTH(at_weak)
