@@ -23,7 +23,7 @@ enum { ZONE = 256, ZONE_BYTE = 0xA5, GIVEN_BYTE = 0xD6, FEWEST_LISTS = 256, MOST
 
 /* A pair of calls, of which the second is yet to come. */
 struct pair {
-    const struct thread *thread;
+    struct thread *thread;
     jg_value name;
     int is_machines;         /* the machine lent its memory for it, and hasn't got it back */
     uint32_t made_by;
@@ -234,6 +234,7 @@ static void leave_out_of_criticals(struct lent *lent) {
 static int close_pair(struct lent *lent, struct pair *pair) {
     if (is_critical(lent->family)) {
         give_up_memory(lent, pair);
+        pair->thread->critical_count--;
     }
     if (lent->pair_count > 1) {
         size_t after = lent->pair_count - 1 - (size_t)(pair - lent->pairs);
@@ -578,6 +579,7 @@ static void *lend(struct call *call, void *memory, jboolean *is_copy) {
         return lend_plain(call, memory);
     }
     const struct pair pair = {call->thread, given, 1, call->function, call->site};
+    call->thread->critical_count += (uint32_t)is_critical(family);
     struct lent *lent = is_critical(family) ? lend_critical(call, memory, shape, &pair)
                                             : lend_copy(call, memory, count, shape, &pair);
     if (is_copy != NULL) {

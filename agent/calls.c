@@ -121,7 +121,7 @@ static int is_free_slot(jobject handle) {
 
 /* An argument of a native method is a place on the stack, which is the machine's word only while the method runs. */
 static int is_stale_argument(const struct thread *thread, uintptr_t handle) {
-    if (handle < thread->stack_low || handle >= thread->stack_high) {
+    if (!threads_has_on_stack(thread, handle)) {
         return 0;
     }
     if (thread->depth == 0) {
@@ -300,6 +300,9 @@ struct reference call_resolve(struct call *call, jobject handle, int wants_objec
         return it;
     }
     int is_known = names_find(address_of(handle), known);
+    if ((!is_known || known->state == NAME_DEAD) && natives_name_unheard(call->thread, handle)) {
+        is_known = names_find(address_of(handle), known);
+    }
     call->has_known = (uint8_t)is_known;
     if (is_known && known->state == NAME_HELD) {
         it.name = known->name;

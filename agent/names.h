@@ -20,6 +20,9 @@ enum state {
  */
 enum { MADE_UNSEEN = UINT16_MAX };
 
+/* In the place of the function that ended one: whether it ended isn't known. */
+enum { ENDED_PERHAPS = UINT16_MAX - 1 };
+
 struct name {
     uintptr_t handle;
     jg_value name;

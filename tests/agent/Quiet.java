@@ -111,6 +111,7 @@ public class Quiet {
 
     /** Another thread's reference is used while its method runs, after that, and when the thread has ended. */
     static void otherThread() throws InterruptedException {
+        idle();
         Thread thread = new Thread(() -> {
             idle();
             new Quiet().stays();
