@@ -3,9 +3,9 @@
  *
  * What method it is is asked at its first run: methods that are bound early have no name yet. A method is only noted
  * when it begins. Of a method of a judged library the core is told at the first call in it, with its arguments; until
- * then it is quiet. With a record or with advice, and where its return may break a rule, it is told at once. Of a method
- * of another library the core is told when judged code makes a call in it, as JNI_OnLoad does in the JDK's own method
- * that loads a library.
+ * then it is quiet. With a record or with advice, and where its return may break a rule, it is told at once. Of a
+ * method of another library the core is told when judged code makes a call in it, as JNI_OnLoad does in the JDK's own
+ * method that loads a library.
  *
  * Where a quiet method returns, the core was told nothing of it. Its arguments are remembered for a while: one that is
  * used later is told then, as one that ended.
@@ -499,7 +499,7 @@ static void tell_entered(struct thread *thread, struct activation *activation) {
 /* ---- quiet methods ---- */
 
 /* What stands on the way of each call of a native method is in a few instructions. The rest is elsewhere. */
-#define ASIDE __attribute__((noinline, cold))
+#define ASIDE __attribute__((noinline))
 
 /*
  * Whether a judged method may be quiet in the thread. If no call is made in it nothing else comes of it: one that
@@ -524,7 +524,7 @@ static inline void remember(struct thread *thread, uintptr_t handle, const struc
     atomic_store_explicit(&place->handle, handle, memory_order_release);
 }
 
-static __attribute__((noinline)) void remember_all(struct thread *thread, const struct native *native, uintptr_t frame) {
+static ASIDE void remember_all(struct thread *thread, const struct native *native, uintptr_t frame) {
     jobject handles[MOST_ARGUMENTS];
     size_t count = find_arguments(native, frame, handles);
     for (size_t at = 0; at < count; at++) {
@@ -549,8 +549,11 @@ static inline void note(struct thread *thread, struct native *native, const uint
  */
 static inline int notes_return(struct thread *thread, const struct native *native, const uint64_t *results,
                                uintptr_t frame) {
-    const struct activation *newest = thread->depth > 0 ? &thread->activations[thread->depth - 1] : NULL;
-    if (newest == NULL || newest->stack != frame || newest->is_told || native->loads ||
+    if (thread->depth == 0) {
+        return 0;
+    }
+    const struct activation *newest = &thread->activations[thread->depth - 1];
+    if (newest->stack != frame || newest->is_told || native->loads ||
         (newest->is_quiet && native->result == 'L' && *results != 0)) {
         return 0;
     }

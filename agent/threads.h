@@ -45,8 +45,8 @@ struct activation {
 };
 
 /*
- * An argument of a native method that was quiet when it returned, or is. The core doesn't know it: it is told when it is
- * used after that, or by another thread. Other threads read it.
+ * An argument of a native method that was quiet when it returned, or is. The core doesn't know it: it is told when it
+ * is used after that, or by another thread. Other threads read it.
  */
 struct unheard {
     _Atomic uintptr_t handle;
