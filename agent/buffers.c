@@ -330,7 +330,7 @@ static void look_at_zones(struct lent *lent, const struct seen *seen) {
     }
 }
 
-enum { PIECE = 2048, BLOCK = 4096 };
+enum { PIECE = 2048 };
 
 static inline uint64_t word_at(const unsigned char *at) {
     uint64_t word;
@@ -488,20 +488,13 @@ static void make_block(struct lent *lent, int keeps_was) {
 static void fill_block(struct lent *lent) {
     size_t items = (size_t)lent->count * objects_item_size(lent->shape);
     memset(lent->block, ZONE_BYTE, ZONE);
-    /* A block is copied twice at once: a processor reads it faster then. */
-    for (size_t at = 0, size; at < items; at += size) {
-        size = items - at < BLOCK ? items - at : BLOCK;
-        memcpy(lent->at + at, lent->memory + at, size);
-        if (lent->was != NULL) {
-            memcpy(lent->was + at, lent->at + at, size);
-        }
-    }
+    memcpy(lent->at, lent->memory, items);
     /* What stands behind a string's units needn't be the string's: code that looks for an end finds one. */
     memset(lent->at + items, 0, lent->bytes - items);
-    if (lent->was != NULL) {
-        memset(lent->was + items, 0, lent->bytes - items);
-    }
     memset(lent->at + lent->bytes, ZONE_BYTE, ZONE);
+    if (lent->was != NULL) {
+        memcpy(lent->was, lent->at, lent->bytes);
+    }
 }
 
 static char shape_of(uint32_t family, const struct object *object) {
