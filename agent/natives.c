@@ -672,6 +672,10 @@ static struct entry enter(struct native *native, const uint64_t *registers, uint
         threads_enter(thread, native, frame, 0);
         return (struct entry){NULL, 0};
     }
+    if (may_be_noted(thread, native, frame)) {
+        note(thread, native, registers, frame);
+        return (struct entry){native->target, native->words};
+    }
     threads_enter(thread, native, frame, native->is_judged && is_live);
     if (native->is_judged) {
         natives_tell_quiet(thread);

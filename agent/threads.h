@@ -80,7 +80,7 @@ struct environment {
     jg_value name;
 };
 
-enum { MEMOS = 16, MEMO_OPERANDS = 3, EARLIER = 4, UNHEARD = 64 };
+enum { MEMOS = 16, MEMO_OPERANDS = 3, EARLIER = 4, UNHEARD = 512 };
 
 /* A question that passed, and how many facts had been told then. */
 struct memo {
@@ -228,7 +228,7 @@ static inline void threads_enter(struct thread *thread, struct native *native, u
 
 /* The place for an argument of a quiet method. */
 static inline struct unheard *threads_unheard(struct thread *thread, uintptr_t handle) {
-    return &thread->unheard[handle / sizeof(void *) % UNHEARD];
+    return &thread->unheard[(uint64_t)handle * 0x9E3779B97F4A7C15u / (UINT64_MAX / UNHEARD + 1)];
 }
 
 /*

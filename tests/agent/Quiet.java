@@ -111,7 +111,6 @@ public class Quiet {
 
     /** Another thread's reference is used while its method runs, after that, and when the thread has ended. */
     static void otherThread() throws InterruptedException {
-        idle();
         Thread thread = new Thread(() -> {
             idle();
             new Quiet().stays();
@@ -156,6 +155,8 @@ public class Quiet {
 
     public static void main(String[] names) throws Exception {
         System.loadLibrary("quiet");
+        // So that the thread is known: what follows is as it is in the middle of a program.
+        idle();
         for (String name : names) {
             System.err.println("== " + name);
             runCase(name);
