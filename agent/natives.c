@@ -543,6 +543,11 @@ static inline void note(struct thread *thread, struct native *native, const uint
     }
 }
 
+/* Whether no reference is returned. Such a method may return, but in a critical region. */
+static inline int returns_nothing(const struct native *native, const uint64_t *results) {
+    return native->result != 'L' || *results == 0;
+}
+
 /*
  * A method returns. Whether that need only be noted, and is: of what the core wasn't told it isn't told the return. But
  * a reference that a judged method returns is judged.
@@ -554,7 +559,7 @@ static inline int notes_return(struct thread *thread, const struct native *nativ
     }
     const struct activation *newest = &thread->activations[thread->depth - 1];
     if (newest->stack != frame || newest->is_told || native->loads ||
-        (newest->is_quiet && native->result == 'L' && *results != 0)) {
+        (newest->is_quiet && !returns_nothing(native, results))) {
         return 0;
     }
     thread->repeated += (uint64_t)(newest->is_quiet && is_live);
@@ -707,6 +712,16 @@ static void tell_left(struct thread *thread) {
     core_tell(jg_fact_of(JG_LEAVES, thread->number, jg_nothing(), jg_null(), 0, 0), NULL);
 }
 
+/* A method returns of which nothing need be asked. */
+static void leave_unasked(struct thread *thread) {
+    core_lock();
+    if (objects_are_gone()) {
+        objects_tell_gone();
+    }
+    tell_left(thread);
+    core_unlock();
+}
+
 /*
  * A judged method returns: asks whether it may return this, and tells that it is left, in one round. Where it may not
  * and denied calls aren't made, it returns NULL.
@@ -746,12 +761,13 @@ static void leave(const struct native *native, uint64_t *results, uintptr_t fram
     }
     if (newest->is_told && is_live) {
         threads_own_again(thread);
-        if (native->is_judged) {
-            leave_judged(thread, native, results);
+        if (!native->is_judged) {
+            leave_unasked(thread);
+        } else if (returns_nothing(native, results) && thread->critical_count == 0 && !core_hears_all) {
+            thread->repeated++;
+            leave_unasked(thread);
         } else {
-            core_lock();
-            tell_left(thread);
-            core_unlock();
+            leave_judged(thread, native, results);
         }
     }
     threads_leave(thread);

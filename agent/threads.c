@@ -292,18 +292,19 @@ static const struct site *take_unheard(struct thread *of, uintptr_t handle) {
 
 const struct site *threads_take_unheard(struct thread *thread, uintptr_t handle, uint32_t *number) {
     const struct site *site = NULL;
-    struct thread *of = thread;
-    if (!threads_has_on_stack(thread, handle)) {
-        pthread_mutex_lock(&lock);
-        for (of = threads; of != NULL && !threads_has_on_stack(of, handle); of = of->next) {
-        }
-        site = of != NULL && of->is_attached ? take_unheard(of, handle) : NULL;
-        *number = of != NULL ? of->number : 0;
-        pthread_mutex_unlock(&lock);
-        return site;
+    if (threads_has_on_stack(thread, handle)) {
+        *number = thread->number;
+        return take_unheard(thread, handle);
     }
-    *number = thread->number;
-    return thread->is_attached ? take_unheard(thread, handle) : NULL;
+    pthread_mutex_lock(&lock);
+    for (struct thread *of = threads; of != NULL && site == NULL; of = of->next) {
+        if (threads_has_on_stack(of, handle)) {
+            *number = of->number;
+            site = take_unheard(of, handle);
+        }
+    }
+    pthread_mutex_unlock(&lock);
+    return site;
 }
 
 /* Tells frames that were pushed before what they stand in was told. Between core_lock and core_unlock. */
