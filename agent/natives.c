@@ -1,5 +1,5 @@
 /*
- * natives.c: native methods. Round each stands a stub, which tells that the method begins and ends.
+ * natives.c: native methods. Round each stands a stub, which notes that the method begins and ends.
  *
  * What method it is is asked at its first run: methods that are bound early have no name yet. A method is only noted
  * when it begins. Of a method of a judged library the core is told at the first call in it, with its arguments; until
@@ -433,7 +433,6 @@ static struct object *receiver_of(struct native *native, JNIEnv *env, jobject ha
     return native->class;
 }
 
-
 /* The method is handed a local reference to the argument. Between core_lock and core_unlock. */
 static void tell_argument(struct thread *thread, const struct argument *argument, const struct native *native) {
     jg_value given = jg_nothing();
@@ -568,11 +567,11 @@ static inline int notes_return(struct thread *thread, const struct native *nativ
 }
 
 void natives_tell_quiet(struct thread *thread) {
-    size_t at = is_live ? thread->depth : 0;
+    size_t at = thread->depth;
     while (at > 0 && !thread->activations[at - 1].is_told) {
         at--;
     }
-    for (; is_live && at < thread->depth; at++) {
+    for (; at < thread->depth && is_live; at++) {
         struct activation *activation = &thread->activations[at];
         if (activation->is_quiet) {
             activation->is_quiet = 0;

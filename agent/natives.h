@@ -1,5 +1,5 @@
 /*
- * natives.h: native methods. Round each stands a stub, which tells that the method begins and ends.
+ * natives.h: native methods. Round each stands a stub, which notes that the method begins and ends.
  */
 #ifndef NATIVES_H
 #define NATIVES_H

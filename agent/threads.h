@@ -116,7 +116,7 @@ struct thread {
     uint64_t newest_serial;
     int is_pending;         /* an exception is, as the core was told */
     int is_unsure;          /* something may have thrown or cleared one unseen */
-    _Atomic uint32_t critical_count; /* its critical pairs that are open */
+    _Atomic uint32_t critical_count; /* its critical pairs that are open. Another thread may release one */
     int has_entered;        /* it entered a monitor by MonitorEnter in this session */
     int endings;            /* how often the destructor of its key was called */
     const struct library *last_library; /* of its last call in the native method that it is in, or NULL */

@@ -123,6 +123,16 @@ public class Quiet {
         uses();
     }
 
+    static void endedThread() throws InterruptedException {
+        Thread thread = new Thread(() -> {
+            idle();
+            new Quiet().keeps();
+        });
+        thread.start();
+        thread.join();
+        uses();
+    }
+
     static void runCase(String name) throws Exception {
         switch (name) {
             case "idles" -> idles();
@@ -149,6 +159,7 @@ public class Quiet {
             case "region" -> region();
             case "owns" -> owns(new Object());
             case "other_thread" -> otherThread();
+            case "ended_thread" -> endedThread();
             default -> throw new AssertionError(name);
         }
     }

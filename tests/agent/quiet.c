@@ -228,7 +228,6 @@ JNIEXPORT void JNICALL Java_Quiet_stays(JNIEnv *env, jobject self) {
     sem_wait(&may_leave);
 }
 
-/* Whose thread detaches, after what it kept. */
 JNIEXPORT void JNICALL Java_Quiet_usesOther(JNIEnv *env, jclass class) {
     (void)class;
     sem_wait(&is_in);
