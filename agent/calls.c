@@ -606,7 +606,7 @@ int call_passes(struct call *call) {
         call->verdict.rule = JG_PASSED;
         call->verdict.operand = 0;
         call->verdict.ticket = memo->ticket;
-        call->thread->repeated++;
+        threads_count_passed(call->thread, 1);
         call->is_asked = 1;
         return 1;
     }

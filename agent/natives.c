@@ -561,7 +561,7 @@ static inline int notes_return(struct thread *thread, const struct native *nativ
         (newest->is_quiet && !returns_nothing(native, results))) {
         return 0;
     }
-    thread->repeated += (uint64_t)(newest->is_quiet && is_live);
+    threads_count_passed(thread, newest->is_quiet && is_live);
     thread->depth--;
     return 1;
 }
@@ -763,7 +763,7 @@ static void leave(const struct native *native, uint64_t *results, uintptr_t fram
         if (!native->is_judged) {
             leave_unasked(thread);
         } else if (returns_nothing(native, results) && thread->critical_count == 0 && !core_hears_all) {
-            thread->repeated++;
+            threads_count_passed(thread, 1);
             leave_unasked(thread);
         } else {
             leave_judged(thread, native, results);

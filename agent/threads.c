@@ -27,7 +27,7 @@ static struct thread *threads;
 static uint32_t greatest_number; /* that was ever taken */
 static uint32_t *free_numbers;   /* those up to it that are free */
 static size_t free_count, free_room;
-static uint64_t repeated; /* of threads that ended */
+static uint64_t passed; /* of threads that ended: questions that passed without the core being asked */
 static pthread_key_t ending;
 static pthread_once_t once = PTHREAD_ONCE_INIT;
 __thread struct thread *threads_current __attribute__((tls_model("initial-exec")));
@@ -113,7 +113,7 @@ static void let_go(void *which) {
     if (thread->next != NULL) {
         thread->next->before = thread->before;
     }
-    repeated += thread->repeated;
+    passed += thread->passed;
     give_number(thread);
     pthread_mutex_unlock(&lock);
     forget_held(thread);
@@ -127,11 +127,11 @@ static void let_go(void *which) {
     threads_current = NULL;
 }
 
-uint64_t threads_repeated(void) {
+uint64_t threads_passed(void) {
     pthread_mutex_lock(&lock);
-    uint64_t count = repeated;
+    uint64_t count = passed;
     for (const struct thread *it = threads; it != NULL; it = it->next) {
-        count += it->repeated;
+        count += it->passed;
     }
     pthread_mutex_unlock(&lock);
     return count;

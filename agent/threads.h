@@ -8,6 +8,8 @@
 #include "natives.h"
 #include "sites.h"
 
+#include <stdatomic.h>
+
 struct call;
 
 enum { RECENT_SITES = 64 };
@@ -123,7 +125,7 @@ struct thread {
     struct recent_site recent[RECENT_SITES];
     struct memo memos[MEMOS];
     struct unheard unheard[UNHEARD]; /* by their handles: the newest of each place */
-    uint64_t repeated; /* questions that passed without being asked: by memos, and of quiet methods that returned */
+    _Atomic uint64_t passed; /* questions that passed without the core being asked */
 };
 
 /* The struct of this thread, or NULL where it has none. */
@@ -196,7 +198,13 @@ static inline int threads_is_caught_up(const struct thread *thread, const JNIEnv
 }
 
 /* How many questions of all threads passed without asking the core. */
-uint64_t threads_repeated(void);
+uint64_t threads_passed(void);
+
+/* So many more of this thread. */
+static inline void threads_count_passed(struct thread *thread, uint64_t more) {
+    uint64_t count = atomic_load_explicit(&thread->passed, memory_order_relaxed);
+    atomic_store_explicit(&thread->passed, count + more, memory_order_relaxed);
+}
 
 /* The name of an environment, whosever it is. */
 jg_value threads_env_name(const struct thread *thread, JNIEnv *env);
