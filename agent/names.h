@@ -43,6 +43,9 @@ int names_find(uintptr_t handle, struct name *found);
 /* The handle has this name from now on. It holds the object. Whether it had a live name before, which is written. */
 int names_put(const struct name *name, struct name *before);
 
+/* The handle has this name, which has ended, unless it has one that hasn't: then that stays. */
+void names_put_ended(const struct name *name);
+
 /* Nothing is known of the handle any longer. */
 void names_forget(uintptr_t handle);
 

@@ -598,16 +598,14 @@ static int name_unheard(uintptr_t handle, const struct site *site, uint32_t numb
         core_facts++;
     }
     core_unlock();
-    struct name before, made = {.handle = handle, .name = given, .made = site, .made_by = JG_FN_NativeEnter};
-    if (error != 0) {
-        return 0;
+    struct name ended = {.handle = handle, .name = given, .made = site, .made_by = JG_FN_NativeEnter};
+    ended.ended = is_own ? site : NULL;
+    ended.ended_by = is_own ? JG_FN_NativeLeave : ENDED_PERHAPS;
+    if (error == 0) {
+        /* The thread that has it may have told it meanwhile. */
+        names_put_ended(&ended);
     }
-    made.is_believed = 1;
-    if (!names_put(&made, &before)) {
-        names_end(handle, given.number, NAME_DEAD, is_own ? JG_FN_NativeLeave : ENDED_PERHAPS,
-                  is_own ? site : NULL);
-    }
-    return 1;
+    return error == 0;
 }
 
 int natives_name_unheard(struct thread *thread, jobject handle) {

@@ -133,6 +133,28 @@ public class Quiet {
         uses();
     }
 
+    /** Threads use what others keep, at the same time. */
+    static void atOnce() throws InterruptedException {
+        Thread[] threads = new Thread[4];
+        for (int at = 0; at < threads.length; at++) {
+            threads[at] = new Thread(() -> {
+                for (int turn = 0; turn < 20_000; turn++) {
+                    new Quiet().keeps();
+                    deep(turn % 7, () -> new Quiet().keeps());
+                    returns(Quiet.class);
+                    if (turn % 5 == 0) {
+                        uses();
+                        makes("made", true);
+                    }
+                }
+            });
+            threads[at].start();
+        }
+        for (Thread thread : threads) {
+            thread.join();
+        }
+    }
+
     static void runCase(String name) throws Exception {
         switch (name) {
             case "idles" -> idles();
@@ -160,6 +182,7 @@ public class Quiet {
             case "owns" -> owns(new Object());
             case "other_thread" -> otherThread();
             case "ended_thread" -> endedThread();
+            case "at_once" -> atOnce();
             default -> throw new AssertionError(name);
         }
     }
