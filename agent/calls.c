@@ -132,7 +132,7 @@ static int is_free_slot(jobject handle) {
 
 /* An argument of a native method is a place on the stack, which is the machine's word only while the method runs. */
 static int is_stale_argument(const struct thread *thread, uintptr_t handle) {
-    if (handle < thread->stack_low || handle >= thread->stack_high) {
+    if (!threads_has_on_stack(thread, handle)) {
         return 0;
     }
     if (thread->depth == 0) {
@@ -311,6 +311,9 @@ struct reference call_resolve(struct call *call, jobject handle, int wants_objec
         return it;
     }
     int is_known = names_find(address_of(handle), known);
+    if ((!is_known || known->state == NAME_DEAD) && natives_name_unheard(call->thread, handle)) {
+        is_known = names_find(address_of(handle), known);
+    }
     call->has_known = (uint8_t)is_known;
     int is_believed = is_known && known->state == NAME_LIVE && known->is_believed;
     call->is_doubtful |= (uint8_t)(!is_believed || known->name.kind == JG_WEAK || is_foreign(call, known));
@@ -619,7 +622,7 @@ int call_passes(struct call *call) {
         call->verdict.rule = JG_PASSED;
         call->verdict.operand = 0;
         call->verdict.ticket = memo->ticket;
-        call->thread->repeated++;
+        threads_count_passed(call->thread, 1);
         call->is_asked = 1;
         return 1;
     }

@@ -24,6 +24,7 @@
 jg_core core = {NULL};
 struct counts counts;
 _Atomic uint64_t core_facts = 1;
+int core_hears_all;
 
 static pthread_mutex_t lock = PTHREAD_ADAPTIVE_MUTEX_INITIALIZER_NP;
 
@@ -266,6 +267,7 @@ int core_open(void) {
         return -1;
     }
     is_advising = options.advice;
+    core_hears_all = options.advice || options.record != NULL;
     forks_open();
     return open_record();
 }

@@ -74,7 +74,7 @@ ALWAYS_INLINE const struct lease *leases_find(const struct asked *it, const JNIE
         !is_live || thread->is_pending || !threads_is_caught_up(thread, env, it->frame)) {
         return NULL;
     }
-    thread->repeated++;
+    threads_count_passed(thread, 1);
     return lease;
 }
 

@@ -107,12 +107,17 @@ int names_find(uintptr_t handle, struct name *found) {
     return is_there;
 }
 
-int names_put(const struct name *name, struct name *before) {
-    struct part *part = part_of(name->handle);
+/* The place of the handle's name, or an empty one for it. */
+static struct name *place_for(struct part *part, uintptr_t handle) {
     if (2 * (part->count + 1) > part->room) {
         resize(part, part->room ? 2 * part->room : FEWEST_PLACES);
     }
-    struct name *place = place_of(part, name->handle);
+    return place_of(part, handle);
+}
+
+int names_put(const struct name *name, struct name *before) {
+    struct part *part = part_of(name->handle);
+    struct name *place = place_for(part, name->handle);
     struct object *object = place->handle ? place->object : NULL;
     int was_live = place->handle != 0 && place->state == NAME_LIVE;
     part->count += place->handle == 0;
@@ -189,6 +194,19 @@ static struct object *make_dead(struct part *part, struct name *name) {
         remember_end(part, name->handle, ANY_NUMBER);
     }
     return object;
+}
+
+void names_put_ended(const struct name *name) {
+    struct part *part = part_of(name->handle);
+    struct name *place = place_for(part, name->handle);
+    if (place->handle == 0 || place->state == NAME_DEAD) {
+        uint8_t is_in_ring = place->handle != 0 && place->is_in_ring;
+        part->count += place->handle == 0;
+        *place = *name;
+        place->is_in_ring = is_in_ring;
+        make_dead(part, place);
+    }
+    spin_unlock(&part->lock);
 }
 
 int names_end(uintptr_t handle, uint64_t number, enum state state, uint16_t by, const struct site *site) {
