@@ -1,19 +1,19 @@
 -- The references among a call's operands are those that the row of its function takes.
-use Rattle.std.proofs.Common.{◌≡◌, ◌∙◌, ℕ, Bool, true, false, List, [], ◌∷◌, Option, Some, None, refl, ap, sym}
+use Rattle.std.proofs.Common.{◌≡◌, ◌∙◌, ℕ, Bool, true, false, List, [], Option, Some, None, refl, ap, sym}
 use Rattle.std.specs.Prelude.{if◌then◌else◌}
 use Rattle.std.specs.List.{find}
 use Rattle.std.specs.Option.{is_some, unwrap_or}
 use Rattle.jg_words.specs.declared.call.Call.{Call}
 use Rattle.jg_words.specs.declared.call.Call.TheVariants.{Vm, Refs, Frames, Exceptions, Objects, Strings, Arrays, Monitors, Buffers}
-use Rattle.jg_words.specs.declared.call.vm.VmCall.TheVariants.{AttachCurrentThread, DetachCurrentThread, GetEnv, NativeEnter, NativeLeave, LoadLibrary, RegisterNatives, UnregisterNatives, Collect}
-use Rattle.jg_words.specs.declared.call.refs.RefsCall.TheVariants.{NewLocalRef, NewGlobalRef, NewWeakGlobalRef, DeleteLocalRef, DeleteGlobalRef, DeleteWeakGlobalRef, IsSameObject, GetObjectRefType}
-use Rattle.jg_words.specs.declared.call.frames.FramesCall.TheVariants.{PushLocalFrame, PopLocalFrame, EnsureLocalCapacity}
-use Rattle.jg_words.specs.declared.call.exceptions.ExceptionsCall.TheVariants.{Throw, ExceptionOccurred, ExceptionDescribe, ExceptionClear, ExceptionCheck}
-use Rattle.jg_words.specs.declared.call.objects.ObjectsCall.TheVariants.{FindClass, GetObjectClass, IsInstanceOf, AllocObject, GetFieldID, GetField, GetObjectField, SetField, SetObjectField}
-use Rattle.jg_words.specs.declared.call.strings.StringsCall.TheVariants.{NewString, NewStringUTF, GetStringLength, GetStringUTFLength, GetStringRegion}
-use Rattle.jg_words.specs.declared.call.arrays.ArraysCall.TheVariants.{NewArray, GetArrayLength, GetArrayRegion, SetArrayRegion, NewObjectArray, GetObjectArrayElement, SetObjectArrayElement}
-use Rattle.jg_words.specs.declared.call.monitors.MonitorsCall.TheVariants.{MonitorEnter, MonitorExit}
-use Rattle.jg_words.specs.declared.call.buffers.BuffersCall.TheVariants.{GetArrayElements, ReleaseArrayElements, GetStringChars, ReleaseStringChars, GetStringUTFChars, ReleaseStringUTFChars, GetPrimitiveArrayCritical, ReleasePrimitiveArrayCritical, GetStringCritical, ReleaseStringCritical, BufferRead, BufferWrite}
+use Rattle.jg_words.specs.declared.call.vm.VmCall.TheVariants.{AttachCurrentThread}
+use Rattle.jg_words.specs.declared.call.refs.RefsCall.TheVariants.{NewLocalRef}
+use Rattle.jg_words.specs.declared.call.frames.FramesCall.TheVariants.{PushLocalFrame}
+use Rattle.jg_words.specs.declared.call.exceptions.ExceptionsCall.TheVariants.{Throw}
+use Rattle.jg_words.specs.declared.call.objects.ObjectsCall.TheVariants.{FindClass}
+use Rattle.jg_words.specs.declared.call.strings.StringsCall.TheVariants.{NewString}
+use Rattle.jg_words.specs.declared.call.arrays.ArraysCall.TheVariants.{NewArray}
+use Rattle.jg_words.specs.declared.call.monitors.MonitorsCall.TheVariants.{MonitorEnter}
+use Rattle.jg_words.specs.declared.call.buffers.BuffersCall.TheVariants.{GetArrayElements}
 use Rattle.jg_words.specs.Call.{fun_of}
 use Rattle.jg_words.specs.declared.rule.Rule.{Rule}
 use Rattle.jg_policy.specs.Stated.{StatedSetup}
@@ -30,65 +30,15 @@ use Rattle.jg_breaches.specs.Referred.{also, referred}
 
 are_referred : (s : StatedSetup) (p : Parts) (t : ℕ) (call : Call) → referred (takes_of (fun_of call)) (arguments_of s p t call) ≡ operands call
 are_referred s p t (Vm AttachCurrentThread) = refl
-are_referred s p t (Vm DetachCurrentThread) = refl
-are_referred s p t (Vm GetEnv) = refl
-are_referred s p t (Vm (NativeEnter class method signature)) = refl
-are_referred s p t (Vm (NativeLeave kept)) = refl
-are_referred s p t (Vm (LoadLibrary class library)) = refl
-are_referred s p t (Vm (RegisterNatives class method signature)) = refl
-are_referred s p t (Vm (UnregisterNatives class)) = refl
-are_referred s p t (Vm Collect) = refl
 are_referred s p t (Refs (NewLocalRef r)) = refl
-are_referred s p t (Refs (NewGlobalRef r)) = refl
-are_referred s p t (Refs (NewWeakGlobalRef r)) = refl
-are_referred s p t (Refs (DeleteLocalRef r)) = refl
-are_referred s p t (Refs (DeleteGlobalRef r)) = refl
-are_referred s p t (Refs (DeleteWeakGlobalRef r)) = refl
-are_referred s p t (Refs (IsSameObject r u)) = refl
-are_referred s p t (Refs (GetObjectRefType r)) = refl
 are_referred s p t (Frames (PushLocalFrame capacity)) = refl
-are_referred s p t (Frames (PopLocalFrame r)) = refl
-are_referred s p t (Frames (EnsureLocalCapacity capacity)) = refl
 are_referred s p t (Exceptions (Throw r)) = refl
-are_referred s p t (Exceptions ExceptionOccurred) = refl
-are_referred s p t (Exceptions ExceptionDescribe) = refl
-are_referred s p t (Exceptions ExceptionClear) = refl
-are_referred s p t (Exceptions ExceptionCheck) = refl
 are_referred s p t (Objects (FindClass name)) = refl
-are_referred s p t (Objects (GetObjectClass r)) = refl
-are_referred s p t (Objects (IsInstanceOf r class)) = refl
-are_referred s p t (Objects (AllocObject class)) = refl
-are_referred s p t (Objects (GetFieldID class name signature)) = refl
-are_referred s p t (Objects (GetField primitive r f)) = refl
-are_referred s p t (Objects (GetObjectField r f)) = refl
-are_referred s p t (Objects (SetField primitive r f value)) = refl
-are_referred s p t (Objects (SetObjectField r f value)) = refl
 are_referred s p t (Strings (NewString units)) = refl
-are_referred s p t (Strings (NewStringUTF bytes)) = refl
-are_referred s p t (Strings (GetStringLength r)) = refl
-are_referred s p t (Strings (GetStringUTFLength r)) = refl
-are_referred s p t (Strings (GetStringRegion r start n)) = refl
 are_referred s p t (Arrays (NewArray element n)) = refl
-are_referred s p t (Arrays (GetArrayLength r)) = refl
-are_referred s p t (Arrays (GetArrayRegion primitive r start n)) = refl
-are_referred s p t (Arrays (SetArrayRegion primitive r start values)) = refl
-are_referred s p t (Arrays (NewObjectArray n class fill)) = refl
-are_referred s p t (Arrays (GetObjectArrayElement r index)) = refl
-are_referred s p t (Arrays (SetObjectArrayElement r index value)) = refl
 are_referred s p t (Monitors (MonitorEnter r)) = refl
-are_referred s p t (Monitors (MonitorExit r)) = refl
 are_referred s p t (Buffers (GetArrayElements element r)) = refl
-are_referred s p t (Buffers (ReleaseArrayElements element r b mode)) = refl
-are_referred s p t (Buffers (GetStringChars r)) = refl
-are_referred s p t (Buffers (ReleaseStringChars r b)) = refl
-are_referred s p t (Buffers (GetStringUTFChars r)) = refl
-are_referred s p t (Buffers (ReleaseStringUTFChars r b)) = refl
-are_referred s p t (Buffers (GetPrimitiveArrayCritical r)) = refl
-are_referred s p t (Buffers (ReleasePrimitiveArrayCritical r b mode)) = refl
-are_referred s p t (Buffers (GetStringCritical r)) = refl
-are_referred s p t (Buffers (ReleaseStringCritical r b)) = refl
-are_referred s p t (Buffers (BufferRead b index)) = refl
-are_referred s p t (Buffers (BufferWrite b index value)) = refl
+are_referred s p t call = refl
 
 -- the first that breaks the rule is the one that is meant
 pub is_meant : (s : StatedSetup) (p : Parts) (t : ℕ) (call : Call) (rule : Rule) (row : Columns) (found : Option Columns) (xs : List Argument)

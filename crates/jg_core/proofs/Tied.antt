@@ -3,20 +3,20 @@ use Rattle.std.proofs.Common.{◌≡◌, ◌∙◌, ℕ, Option, Some, None, ref
 use Rattle.std.specs.Option.{option_map}
 use Rattle.jg_words.specs.declared.thread.Tid.{Tid}
 use Rattle.jg_words.specs.declared.object.ObjId.{ObjId}
-use Rattle.jg_words.specs.declared.object.Primitive.TheVariants.{Boolean, Byte, Char, Short, Int, Long}
+use Rattle.jg_words.specs.declared.object.Primitive.TheVariants.{Boolean}
 use Rattle.jg_words.specs.declared.object.ItemType.TheVariants.{Of}
 use Rattle.jg_words.specs.declared.reference.Ref.TheVariants.{Null}
 use Rattle.jg_words.specs.declared.call.Call.{Call}
 use Rattle.jg_words.specs.declared.call.Call.TheVariants.{Vm, Refs, Frames, Exceptions, Objects, Strings, Arrays, Monitors, Buffers}
-use Rattle.jg_words.specs.declared.call.vm.VmCall.TheVariants.{AttachCurrentThread, DetachCurrentThread, GetEnv, NativeEnter, NativeLeave, LoadLibrary, RegisterNatives, UnregisterNatives, Collect}
-use Rattle.jg_words.specs.declared.call.refs.RefsCall.TheVariants.{NewLocalRef, NewGlobalRef, NewWeakGlobalRef, DeleteLocalRef, DeleteGlobalRef, DeleteWeakGlobalRef, IsSameObject, GetObjectRefType}
-use Rattle.jg_words.specs.declared.call.frames.FramesCall.TheVariants.{PushLocalFrame, PopLocalFrame, EnsureLocalCapacity}
-use Rattle.jg_words.specs.declared.call.exceptions.ExceptionsCall.TheVariants.{Throw, ExceptionOccurred, ExceptionDescribe, ExceptionClear, ExceptionCheck}
-use Rattle.jg_words.specs.declared.call.objects.ObjectsCall.TheVariants.{FindClass, GetObjectClass, IsInstanceOf, AllocObject, GetFieldID, GetField, GetObjectField, SetField, SetObjectField}
-use Rattle.jg_words.specs.declared.call.strings.StringsCall.TheVariants.{NewString, NewStringUTF, GetStringLength, GetStringUTFLength, GetStringRegion}
-use Rattle.jg_words.specs.declared.call.arrays.ArraysCall.TheVariants.{NewArray, GetArrayLength, GetArrayRegion, SetArrayRegion, NewObjectArray, GetObjectArrayElement, SetObjectArrayElement}
+use Rattle.jg_words.specs.declared.call.vm.VmCall.TheVariants.{AttachCurrentThread}
+use Rattle.jg_words.specs.declared.call.refs.RefsCall.TheVariants.{NewLocalRef}
+use Rattle.jg_words.specs.declared.call.frames.FramesCall.TheVariants.{PushLocalFrame}
+use Rattle.jg_words.specs.declared.call.exceptions.ExceptionsCall.TheVariants.{Throw}
+use Rattle.jg_words.specs.declared.call.objects.ObjectsCall.TheVariants.{FindClass, GetField, SetField}
+use Rattle.jg_words.specs.declared.call.strings.StringsCall.TheVariants.{NewString}
+use Rattle.jg_words.specs.declared.call.arrays.ArraysCall.TheVariants.{NewArray, GetArrayRegion, SetArrayRegion}
 use Rattle.jg_words.specs.declared.call.monitors.MonitorsCall.TheVariants.{MonitorEnter, MonitorExit}
-use Rattle.jg_words.specs.declared.call.buffers.BuffersCall.TheVariants.{GetArrayElements, ReleaseArrayElements, GetStringChars, ReleaseStringChars, GetStringUTFChars, ReleaseStringUTFChars, GetPrimitiveArrayCritical, ReleasePrimitiveArrayCritical, GetStringCritical, ReleaseStringCritical, BufferRead, BufferWrite}
+use Rattle.jg_words.specs.declared.call.buffers.BuffersCall.TheVariants.{GetArrayElements, GetStringChars, GetStringUTFChars, GetPrimitiveArrayCritical, GetStringCritical}
 use Rattle.jg_words.specs.Call.{fun_of}
 use Rattle.jg_table_buffers.specs.declared.family.Family.TheVariants.{Elements, Chars, UtfChars, ArrayCritical, StringCritical}
 use Rattle.jg_policy.specs.Stated.{StatedSetup}
@@ -46,85 +46,24 @@ done_same t fact (Some o) says = refl
 tied : (s : StatedSetup) (p : Parts) (t : Tid) (call : Call) (says : Says)
     → told t (expected_of s p t (row_for (fun_of call)) (effect_of (fun_of call)) (arguments_of s p t.0 call)) says ≡ implied s p t call says
 tied s p t (Vm AttachCurrentThread) says = refl
-tied s p t (Vm DetachCurrentThread) says = refl
-tied s p t (Vm GetEnv) says = refl
-tied s p t (Vm (NativeEnter class method signature)) says = refl
-tied s p t (Vm (NativeLeave kept)) says = refl
-tied s p t (Vm (LoadLibrary class library)) says = refl
-tied s p t (Vm (RegisterNatives class method signature)) says = refl
-tied s p t (Vm (UnregisterNatives class)) says = refl
-tied s p t (Vm Collect) says = refl
 tied s p t (Refs (NewLocalRef r)) says = refl
-tied s p t (Refs (NewGlobalRef r)) says = refl
-tied s p t (Refs (NewWeakGlobalRef r)) says = refl
-tied s p t (Refs (DeleteLocalRef r)) says = refl
-tied s p t (Refs (DeleteGlobalRef r)) says = refl
-tied s p t (Refs (DeleteWeakGlobalRef r)) says = refl
-tied s p t (Refs (IsSameObject r u)) says = refl
-tied s p t (Refs (GetObjectRefType r)) says = refl
 tied s p t (Frames (PushLocalFrame capacity)) says = refl
-tied s p t (Frames (PopLocalFrame r)) says = refl
-tied s p t (Frames (EnsureLocalCapacity capacity)) says = refl
 tied s p t (Exceptions (Throw r)) says = done_same t (λ o. Raise t o) (object_named p t.0 r) says
-tied s p t (Exceptions ExceptionOccurred) says = refl
-tied s p t (Exceptions ExceptionDescribe) says = refl
-tied s p t (Exceptions ExceptionClear) says = refl
-tied s p t (Exceptions ExceptionCheck) says = refl
 tied s p t (Objects (FindClass name)) says = refl
-tied s p t (Objects (GetObjectClass r)) says = refl
-tied s p t (Objects (IsInstanceOf r class)) says = refl
-tied s p t (Objects (AllocObject class)) says = refl
-tied s p t (Objects (GetFieldID class name signature)) says = refl
 tied s p t (Objects (GetField Boolean r f)) says = refl
-tied s p t (Objects (GetField Byte r f)) says = refl
-tied s p t (Objects (GetField Char r f)) says = refl
-tied s p t (Objects (GetField Short r f)) says = refl
-tied s p t (Objects (GetField Int r f)) says = refl
-tied s p t (Objects (GetField Long r f)) says = refl
-tied s p t (Objects (GetObjectField r f)) says = refl
 tied s p t (Objects (SetField Boolean r f value)) says = refl
-tied s p t (Objects (SetField Byte r f value)) says = refl
-tied s p t (Objects (SetField Char r f value)) says = refl
-tied s p t (Objects (SetField Short r f value)) says = refl
-tied s p t (Objects (SetField Int r f value)) says = refl
-tied s p t (Objects (SetField Long r f value)) says = refl
-tied s p t (Objects (SetObjectField r f value)) says = refl
 tied s p t (Strings (NewString units)) says = refl
-tied s p t (Strings (NewStringUTF bytes)) says = refl
-tied s p t (Strings (GetStringLength r)) says = refl
-tied s p t (Strings (GetStringUTFLength r)) says = refl
-tied s p t (Strings (GetStringRegion r start n)) says = refl
 tied s p t (Arrays (NewArray element n)) says = refl
-tied s p t (Arrays (GetArrayLength r)) says = refl
 tied s p t (Arrays (GetArrayRegion Boolean r start n)) says = refl
-tied s p t (Arrays (GetArrayRegion Byte r start n)) says = refl
-tied s p t (Arrays (GetArrayRegion Char r start n)) says = refl
-tied s p t (Arrays (GetArrayRegion Short r start n)) says = refl
-tied s p t (Arrays (GetArrayRegion Int r start n)) says = refl
-tied s p t (Arrays (GetArrayRegion Long r start n)) says = refl
 tied s p t (Arrays (SetArrayRegion Boolean r start values)) says = refl
-tied s p t (Arrays (SetArrayRegion Byte r start values)) says = refl
-tied s p t (Arrays (SetArrayRegion Char r start values)) says = refl
-tied s p t (Arrays (SetArrayRegion Short r start values)) says = refl
-tied s p t (Arrays (SetArrayRegion Int r start values)) says = refl
-tied s p t (Arrays (SetArrayRegion Long r start values)) says = refl
-tied s p t (Arrays (NewObjectArray n class fill)) says = refl
-tied s p t (Arrays (GetObjectArrayElement r index)) says = refl
-tied s p t (Arrays (SetObjectArrayElement r index value)) says = refl
 tied s p t (Monitors (MonitorEnter r)) says = done_same t (λ o. Own t o) (object_named p t.0 r) says
 tied s p t (Monitors (MonitorExit r)) says = done_same t (λ o. Free t o) (object_named p t.0 r) says
 tied s p t (Buffers (GetArrayElements element r)) says = ap (λ o. lending t (Elements (Of element)) o Null says) (named_again (object_named p t.0 r))
-tied s p t (Buffers (ReleaseArrayElements element r b mode)) says = refl
 tied s p t (Buffers (GetStringChars r)) says = ap (λ o. lending t Chars o Null says) (named_again (object_named p t.0 r))
-tied s p t (Buffers (ReleaseStringChars r b)) says = refl
 tied s p t (Buffers (GetStringUTFChars r)) says = ap (λ o. lending t UtfChars o Null says) (named_again (object_named p t.0 r))
-tied s p t (Buffers (ReleaseStringUTFChars r b)) says = refl
 tied s p t (Buffers (GetPrimitiveArrayCritical r)) says = ap (λ o. lending t ArrayCritical o r says) (named_again (object_named p t.0 r))
-tied s p t (Buffers (ReleasePrimitiveArrayCritical r b mode)) says = refl
 tied s p t (Buffers (GetStringCritical r)) says = ap (λ o. lending t StringCritical o r says) (named_again (object_named p t.0 r))
-tied s p t (Buffers (ReleaseStringCritical r b)) says = refl
-tied s p t (Buffers (BufferRead b index)) says = refl
-tied s p t (Buffers (BufferWrite b index value)) says = refl
+tied s p t call says = refl
 
 pub told_as_calls : ToldAsCalls
 told_as_calls s p t call says =

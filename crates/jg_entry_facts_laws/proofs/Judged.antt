@@ -17,17 +17,17 @@ use Rattle.jg_words.specs.MayCall.{passes_pending, passes_critical}
 use Rattle.jg_words.specs.declared.call.Call.{Call}
 use Rattle.jg_words.specs.declared.call.Call.TheVariants.{Vm, Refs, Frames, Objects, Monitors, Buffers}
 use Rattle.jg_words.specs.declared.call.vm.VmCall.{VmCall}
-use Rattle.jg_words.specs.declared.call.vm.VmCall.TheVariants.{AttachCurrentThread, DetachCurrentThread, GetEnv, NativeEnter, NativeLeave, LoadLibrary, RegisterNatives, UnregisterNatives, Collect}
+use Rattle.jg_words.specs.declared.call.vm.VmCall.TheVariants.{DetachCurrentThread, NativeEnter, NativeLeave, RegisterNatives}
 use Rattle.jg_words.specs.declared.call.refs.RefsCall.{RefsCall}
-use Rattle.jg_words.specs.declared.call.refs.RefsCall.TheVariants.{NewLocalRef, NewGlobalRef, NewWeakGlobalRef, DeleteLocalRef, DeleteGlobalRef, DeleteWeakGlobalRef, IsSameObject, GetObjectRefType}
+use Rattle.jg_words.specs.declared.call.refs.RefsCall.TheVariants.{DeleteGlobalRef, DeleteWeakGlobalRef}
 use Rattle.jg_words.specs.declared.call.frames.FramesCall.{FramesCall}
 use Rattle.jg_words.specs.declared.call.frames.FramesCall.TheVariants.{PushLocalFrame, PopLocalFrame, EnsureLocalCapacity}
 use Rattle.jg_words.specs.declared.call.objects.ObjectsCall.{ObjectsCall}
-use Rattle.jg_words.specs.declared.call.objects.ObjectsCall.TheVariants.{FindClass, GetObjectClass, IsInstanceOf, AllocObject, GetFieldID, GetField, GetObjectField, SetField, SetObjectField}
+use Rattle.jg_words.specs.declared.call.objects.ObjectsCall.TheVariants.{GetField, GetObjectField, SetField, SetObjectField}
 use Rattle.jg_words.specs.declared.call.monitors.MonitorsCall.{MonitorsCall}
 use Rattle.jg_words.specs.declared.call.monitors.MonitorsCall.TheVariants.{MonitorEnter, MonitorExit}
 use Rattle.jg_words.specs.declared.call.buffers.BuffersCall.{BuffersCall}
-use Rattle.jg_words.specs.declared.call.buffers.BuffersCall.TheVariants.{GetArrayElements, ReleaseArrayElements, GetStringChars, ReleaseStringChars, GetStringUTFChars, ReleaseStringUTFChars, GetPrimitiveArrayCritical, ReleasePrimitiveArrayCritical, GetStringCritical, ReleaseStringCritical, BufferRead, BufferWrite}
+use Rattle.jg_words.specs.declared.call.buffers.BuffersCall.TheVariants.{ReleaseArrayElements, ReleaseStringChars, ReleaseStringUTFChars, ReleasePrimitiveArrayCritical, ReleaseStringCritical, BufferRead, BufferWrite}
 use Rattle.jg_words.specs.declared.buffer.BufId.{BufId}
 use Rattle.jg_policy.specs.Stated.{StatedSetup}
 use Rattle.jg_policy.specs.Classes.{is_throwable, field_type, class_named}
@@ -38,13 +38,13 @@ use Rattle.jg_table_buffers.specs.declared.family.Family.TheVariants.{Elements, 
 use Rattle.jg_rules.specs.declared.named.Named.{Named}
 use Rattle.jg_rules.specs.declared.named.Named.TheVariants.{Nothing, Null as NamesNull, Object}
 use Rattle.jg_rules.specs.declared.operand.ObjectType.{ObjectType}
-use Rattle.jg_rules.specs.declared.operand.ObjectType.TheVariants.{AnyObject, ClassObject, PlainClass, ThrowableObject, StringObject, AnyArray, PrimitiveArray, ArrayOf, ObjectArray}
+use Rattle.jg_rules.specs.declared.operand.ObjectType.TheVariants.{AnyObject, PlainClass, ThrowableObject}
 use Rattle.jg_rules.specs.declared.operand.Operand.{Operand}
 use Rattle.jg_rules.specs.Parts.{Parts}
 use Rattle.jg_rules.specs.Names.{names, named_by, named_by_target, object_in, object_named, native_meant}
 use Rattle.jg_rules.specs.Operands.{operands, is_of}
 use Rattle.jg_words.specs.Classes.{element_of}
-use Rattle.jg_words.specs.declared.object.ItemType.TheVariants.{Of, Float, Double}
+use Rattle.jg_words.specs.declared.object.ItemType.TheVariants.{Of}
 use Rattle.jg_rules.specs.Buffers.{buffer_named, item_type, is_place, is_value_of_type}
 use Rattle.jg_rules.specs.Rules.{broken, rules_in_order, is_session, is_nothing, is_null, is_wrong, is_of_class, is_stated_as, field_of_another, is_outside_of, is_wrong_item, is_linked, is_by, is_not_owned, is_releasable}
 use Rattle.jg_entry_facts_laws.specs.Alike.{ReadAlike}
@@ -72,14 +72,9 @@ module _ (s : StatedSetup) (p q : Parts) (same : ReadAlike s p q) where
 
   of_same : (type : ObjectType) (o : ℕ) → is_of s p type o ≡ is_of s q type o
   of_same AnyObject o = refl
-  of_same ClassObject o = rw (same.classes o) refl
   of_same PlainClass o = refl
   of_same ThrowableObject o = ap (is_throwable s) (same.classes o)
-  of_same StringObject o = rw (same.classes o) refl
-  of_same AnyArray o = rw (same.classes o) refl
-  of_same PrimitiveArray o = rw (same.classes o) refl
-  of_same (ArrayOf element) o = rw (same.classes o) refl
-  of_same ObjectArray o = rw (same.classes o) refl
+  of_same call o = rw (same.classes o) refl
 
   wrong_same : (type : ObjectType) (named : Named) → is_wrong s p type named ≡ is_wrong s q type named
   wrong_same type Nothing = refl
@@ -100,15 +95,11 @@ module _ (s : StatedSetup) (p q : Parts) (same : ReadAlike s p q) where
       (ap (is_of_class s p f.class) (names_same t r) ∙ class_same f.class (names q t r))
 
   fields : (t : ℕ) (env : Option EnvId) (call : ObjectsCall) → broken BadField s p t env (Objects call) ≡ broken BadField s q t env (Objects call)
-  fields t env (FindClass name) = refl
-  fields t env (GetObjectClass r) = refl
-  fields t env (IsInstanceOf r class) = refl
-  fields t env (AllocObject class) = refl
-  fields t env (GetFieldID class field signature) = refl
   fields t env (GetField primitive r field) = field_same t (Some primitive) r field
   fields t env (GetObjectField r field) = field_same t None r field
   fields t env (SetField primitive r field value) = field_same t (Some primitive) r field
   fields t env (SetObjectField r field value) = field_same t None r field
+  fields t env call = refl
 
   -- ---- buffers
 
@@ -116,55 +107,33 @@ module _ (s : StatedSetup) (p q : Parts) (same : ReadAlike s p q) where
   releases t family r b = rw (object_same t r, same.lent b) refl
 
   buffer_rule : (t : ℕ) (env : Option EnvId) (call : BuffersCall) → broken BadBuffer s p t env (Buffers call) ≡ broken BadBuffer s q t env (Buffers call)
-  buffer_rule t env (GetArrayElements element r) = refl
   buffer_rule t env (ReleaseArrayElements element r b mode) = ap not (releases t (Elements (Of element)) r b)
-  buffer_rule t env (GetStringChars r) = refl
   buffer_rule t env (ReleaseStringChars r b) = ap not (releases t Chars r b)
-  buffer_rule t env (GetStringUTFChars r) = refl
   buffer_rule t env (ReleaseStringUTFChars r b) = ap not (releases t UtfChars r b)
-  buffer_rule t env (GetPrimitiveArrayCritical r) = refl
   buffer_rule t env (ReleasePrimitiveArrayCritical r b mode) = ap not (releases t ArrayCritical r b)
-  buffer_rule t env (GetStringCritical r) = refl
   buffer_rule t env (ReleaseStringCritical r b) = ap not (releases t StringCritical r b)
   buffer_rule t env (BufferRead b index) = rw (same.lent b) refl
   buffer_rule t env (BufferWrite b index value) = rw (same.lent b) refl
+  buffer_rule t env call = refl
 
   item_same : (info : Info) (family : Family) → item_type s p info family ≡ item_type s q info family
   item_same info (Elements (Of element)) = refl
-  item_same info (Elements Float) = refl
-  item_same info (Elements Double) = refl
-  item_same info Chars = refl
-  item_same info UtfChars = refl
   item_same info ArrayCritical = ap element_of (same.classes info.object.0)
-  item_same info StringCritical = refl
+  item_same info call = refl
 
   items : (index v : ℤ) (found : Option Info) → is_wrong_item s p index v found ≡ is_wrong_item s q index v found
   items index v None = refl
   items index v (Some info) = ap (λ (type : Option Primitive). not (is_place index info.length && is_value_of_type type v)) (item_same info info.family)
 
   argument_rule : (t : ℕ) (env : Option EnvId) (call : BuffersCall) → broken BadArgument s p t env (Buffers call) ≡ broken BadArgument s q t env (Buffers call)
-  argument_rule t env (GetArrayElements element r) = refl
-  argument_rule t env (ReleaseArrayElements element r b mode) = refl
-  argument_rule t env (GetStringChars r) = refl
-  argument_rule t env (ReleaseStringChars r b) = refl
-  argument_rule t env (GetStringUTFChars r) = refl
-  argument_rule t env (ReleaseStringUTFChars r b) = refl
-  argument_rule t env (GetPrimitiveArrayCritical r) = refl
-  argument_rule t env (ReleasePrimitiveArrayCritical r b mode) = refl
-  argument_rule t env (GetStringCritical r) = refl
-  argument_rule t env (ReleaseStringCritical r b) = refl
   argument_rule t env (BufferRead b index) = ap (is_outside_of index) (same.lent b)
   argument_rule t env (BufferWrite b index value) = ap (is_wrong_item s p index value) (same.lent b) ∙ items index value (buffer_named q b)
+  argument_rule t env call = refl
 
   pins : (t : ℕ) (env : Option EnvId) (call : RefsCall) → broken Pinned s p t env (Refs call) ≡ broken Pinned s q t env (Refs call)
-  pins t env (NewLocalRef r) = refl
-  pins t env (NewGlobalRef r) = refl
-  pins t env (NewWeakGlobalRef r) = refl
-  pins t env (DeleteLocalRef r) = refl
   pins t env (DeleteGlobalRef r) = same_pinned p.buffers q.buffers r same_lent
   pins t env (DeleteWeakGlobalRef r) = same_pinned p.buffers q.buffers r same_lent
-  pins t env (IsSameObject r u) = refl
-  pins t env (GetObjectRefType r) = refl
+  pins t env call = refl
 
   -- ---- monitors, frames, links
 
@@ -177,15 +146,9 @@ module _ (s : StatedSetup) (p q : Parts) (same : ReadAlike s p q) where
   owns t env (MonitorExit r) = ap (is_not_owned p t) (object_same t r) ∙ owned_same t (object_named q t r)
 
   vm_frames : (t : ℕ) (env : Option EnvId) (call : VmCall) → broken BadFrame s p t env (Vm call) ≡ broken BadFrame s q t env (Vm call)
-  vm_frames t env AttachCurrentThread = refl
   vm_frames t env DetachCurrentThread = ap (λ (n : ℕ). nat_lt 0 n) (same.natives t)
-  vm_frames t env GetEnv = refl
-  vm_frames t env (NativeEnter class method signature) = refl
   vm_frames t env (NativeLeave kept) = ap (λ (n : ℕ). n == 0) (same.natives t)
-  vm_frames t env (LoadLibrary class library) = refl
-  vm_frames t env (RegisterNatives class method signature) = refl
-  vm_frames t env (UnregisterNatives class) = refl
-  vm_frames t env Collect = refl
+  vm_frames t env call = refl
 
   frames : (t : ℕ) (env : Option EnvId) (call : FramesCall) → broken BadFrame s p t env (Frames call) ≡ broken BadFrame s q t env (Frames call)
   frames t env (PushLocalFrame capacity) = refl
@@ -198,15 +161,8 @@ module _ (s : StatedSetup) (p q : Parts) (same : ReadAlike s p q) where
   linked_same (Some class) (Some native) = same.linked class native
 
   links : (t : ℕ) (env : Option EnvId) (call : VmCall) → broken NotLinked s p t env (Vm call) ≡ broken NotLinked s q t env (Vm call)
-  links t env AttachCurrentThread = refl
-  links t env DetachCurrentThread = refl
-  links t env GetEnv = refl
   links t env (NativeEnter class method signature) = ap not (linked_same (class_named s class) (native_meant s (class_named s class) method signature))
-  links t env (NativeLeave kept) = refl
-  links t env (LoadLibrary class library) = refl
-  links t env (RegisterNatives class method signature) = refl
-  links t env (UnregisterNatives class) = refl
-  links t env Collect = refl
+  links t env call = refl
 
   -- ---- each rule
 
@@ -215,15 +171,8 @@ module _ (s : StatedSetup) (p q : Parts) (same : ReadAlike s p q) where
   session_rule t (Some env) call = ap (λ (x : Option ℕ). not ((env.tid.0 == t) && is_session x env.session)) (same.present t)
 
   access_rule : (t : ℕ) (env : Option EnvId) (call : VmCall) → broken NoNativeAccess s p t env (Vm call) ≡ broken NoNativeAccess s q t env (Vm call)
-  access_rule t env AttachCurrentThread = refl
-  access_rule t env DetachCurrentThread = refl
-  access_rule t env GetEnv = refl
-  access_rule t env (NativeEnter class method signature) = refl
-  access_rule t env (NativeLeave kept) = refl
-  access_rule t env (LoadLibrary class library) = refl
   access_rule t env (RegisterNatives class method signature) = rw (object_same t class) refl
-  access_rule t env (UnregisterNatives class) = refl
-  access_rule t env Collect = refl
+  access_rule t env call = refl
 
   rule_same : (t : ℕ) (env : Option EnvId) (call : Call) (rule : Rule) → broken rule s p t env call ≡ broken rule s q t env call
   rule_same t env call WrongThread = refl

@@ -26,15 +26,15 @@ use Rattle.jg_words.specs.declared.call.Call.TheVariants.{Vm, Refs, Frames, Exce
 use Rattle.jg_words.specs.declared.call.vm.VmCall.{VmCall}
 use Rattle.jg_words.specs.declared.call.vm.VmCall.TheVariants.{AttachCurrentThread, DetachCurrentThread, GetEnv, NativeEnter, NativeLeave, LoadLibrary, RegisterNatives, UnregisterNatives, Collect}
 use Rattle.jg_words.specs.declared.call.refs.RefsCall.{RefsCall}
-use Rattle.jg_words.specs.declared.call.refs.RefsCall.TheVariants.{NewLocalRef, NewGlobalRef, NewWeakGlobalRef, DeleteLocalRef, DeleteGlobalRef, DeleteWeakGlobalRef, IsSameObject, GetObjectRefType}
+use Rattle.jg_words.specs.declared.call.refs.RefsCall.TheVariants.{NewLocalRef, NewGlobalRef, NewWeakGlobalRef, DeleteLocalRef, DeleteGlobalRef, DeleteWeakGlobalRef}
 use Rattle.jg_words.specs.declared.call.frames.FramesCall.{FramesCall}
 use Rattle.jg_words.specs.declared.call.frames.FramesCall.TheVariants.{PushLocalFrame, PopLocalFrame, EnsureLocalCapacity}
 use Rattle.jg_words.specs.declared.call.exceptions.ExceptionsCall.{ExceptionsCall}
-use Rattle.jg_words.specs.declared.call.exceptions.ExceptionsCall.TheVariants.{Throw, ExceptionOccurred, ExceptionDescribe, ExceptionClear, ExceptionCheck}
+use Rattle.jg_words.specs.declared.call.exceptions.ExceptionsCall.TheVariants.{Throw, ExceptionOccurred, ExceptionCheck}
 use Rattle.jg_words.specs.declared.call.objects.ObjectsCall.{ObjectsCall}
-use Rattle.jg_words.specs.declared.call.objects.ObjectsCall.TheVariants.{FindClass, GetObjectClass, IsInstanceOf, AllocObject, GetFieldID, GetField, GetObjectField, SetField, SetObjectField}
+use Rattle.jg_words.specs.declared.call.objects.ObjectsCall.TheVariants.{FindClass, GetObjectClass, AllocObject, GetFieldID, GetObjectField}
 use Rattle.jg_words.specs.declared.call.strings.StringsCall.{StringsCall}
-use Rattle.jg_words.specs.declared.call.strings.StringsCall.TheVariants.{NewString, NewStringUTF, GetStringLength, GetStringUTFLength, GetStringRegion}
+use Rattle.jg_words.specs.declared.call.strings.StringsCall.TheVariants.{NewString, NewStringUTF, GetStringRegion}
 use Rattle.jg_words.specs.declared.call.arrays.ArraysCall.{ArraysCall}
 use Rattle.jg_words.specs.declared.call.arrays.ArraysCall.TheVariants.{NewArray, GetArrayLength, GetArrayRegion, SetArrayRegion, NewObjectArray, GetObjectArrayElement, SetObjectArrayElement}
 use Rattle.jg_words.specs.declared.call.monitors.MonitorsCall.{MonitorsCall}
@@ -300,8 +300,7 @@ module _ (s : StatedSetup) (q : Parts) (t : Tid) (env : Option EnvId) where
   refs_tied (DeleteLocalRef r) = record { fact = losing r; is = refl; facts = lost r }
   refs_tied (DeleteGlobalRef r) = record { fact = losing r; is = refl; facts = lost r }
   refs_tied (DeleteWeakGlobalRef r) = record { fact = losing r; is = refl; facts = lost r }
-  refs_tied (IsSameObject r u) = record { fact = None; is = refl; facts = refl }
-  refs_tied (GetObjectRefType r) = record { fact = None; is = refl; facts = refl }
+  refs_tied call = record { fact = None; is = refl; facts = refl }
 
   frames_tied : (call : FramesCall) → Tied s q t (Frames call) (unnoticed s q t (Frames call))
   frames_tied (PushLocalFrame capacity) = record { fact = Some (Push t (natural capacity)); is = refl; facts = refl }
@@ -311,30 +310,25 @@ module _ (s : StatedSetup) (q : Parts) (t : Tid) (env : Option EnvId) where
   exceptions_tied : (call : ExceptionsCall) → Unbroken s q t.0 env (Exceptions call) → Tied s q t (Exceptions call) (unnoticed s q t (Exceptions call))
   exceptions_tied (Throw r) u = raises t (the_object q t.0 r) (object_named q t.0 r) (the_named (names q t.0 r) false false u.alive u.not_null)
   exceptions_tied ExceptionOccurred u = hands q t Local (pending q t.0) []
-  exceptions_tied ExceptionDescribe u = record { fact = Some (Calm t); is = refl; facts = refl }
-  exceptions_tied ExceptionClear u = record { fact = Some (Calm t); is = refl; facts = refl }
   exceptions_tied ExceptionCheck u = record { fact = None; is = refl; facts = refl }
+  exceptions_tied call u = record { fact = Some (Calm t); is = refl; facts = refl }
 
   objects_tied : (call : ObjectsCall) → Tied s q t (Objects call) (unnoticed s q t (Objects call))
   objects_tied (FindClass name) = classes s q t (class_named s name)
   objects_tied (GetObjectClass r) = hands q t Local (Some (class_of s q (the_object q t.0 r))) []
-  objects_tied (IsInstanceOf r class) = record { fact = None; is = refl; facts = refl }
   objects_tied (AllocObject class) = hands q t Local (Some (object_count s q)) (objects_heap s q t.0 (AllocObject class))
   objects_tied (GetFieldID class field signature) = fields s q t (field_meant s (class_meant s q t.0 class) field signature)
-  objects_tied (GetField primitive r field) = record { fact = None; is = refl; facts = refl }
   objects_tied (GetObjectField r field) = hands q t Local (target_in (field_value s q (the_object q t.0 r) field)) []
-  objects_tied (SetField primitive r field value) = record { fact = None; is = refl; facts = refl }
-  objects_tied (SetObjectField r field value) = record { fact = None; is = refl; facts = refl }
+  objects_tied call = record { fact = None; is = refl; facts = refl }
 
   strings_tied : (call : StringsCall) → Tied s q t (Strings call) (unnoticed s q t (Strings call))
   strings_tied (NewString units) = hands q t Local (Some (object_count s q)) (strings_heap (NewString units))
   strings_tied (NewStringUTF bytes) = hands q t Local (Some (object_count s q)) (strings_heap (NewStringUTF bytes))
-  strings_tied (GetStringLength r) = record { fact = None; is = refl; facts = refl }
-  strings_tied (GetStringUTFLength r) = record { fact = None; is = refl; facts = refl }
   strings_tied (GetStringRegion r start n) =
       let o : ℕ = the_object q t.0 r in
       outside s q t (doing t (Some None)) [] [] StringIndexOutOfBounds (is_outside start n (length (units_of s q o)))
       (region (map pos (units_of s q o)) start n) (λ x. refl) (record { fact = None; is = refl; facts = refl })
+  strings_tied call = record { fact = None; is = refl; facts = refl }
 
   arrays_tied : (call : ArraysCall) → Tied s q t (Arrays call) (unnoticed s q t (Arrays call))
   arrays_tied (NewArray element n) = hands q t Local (Some (object_count s q)) (arrays_heap q t.0 (NewArray element n))

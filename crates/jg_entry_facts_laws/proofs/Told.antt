@@ -27,15 +27,15 @@ use Rattle.jg_words.specs.declared.call.Call.TheVariants.{Vm, Refs, Frames, Exce
 use Rattle.jg_words.specs.declared.call.vm.VmCall.{VmCall}
 use Rattle.jg_words.specs.declared.call.vm.VmCall.TheVariants.{AttachCurrentThread, DetachCurrentThread, GetEnv, NativeEnter, NativeLeave, LoadLibrary, RegisterNatives, UnregisterNatives, Collect}
 use Rattle.jg_words.specs.declared.call.refs.RefsCall.{RefsCall}
-use Rattle.jg_words.specs.declared.call.refs.RefsCall.TheVariants.{NewLocalRef, NewGlobalRef, NewWeakGlobalRef, DeleteLocalRef, DeleteGlobalRef, DeleteWeakGlobalRef, IsSameObject, GetObjectRefType}
+use Rattle.jg_words.specs.declared.call.refs.RefsCall.TheVariants.{NewLocalRef, NewGlobalRef, NewWeakGlobalRef, DeleteLocalRef, DeleteGlobalRef, DeleteWeakGlobalRef}
 use Rattle.jg_words.specs.declared.call.frames.FramesCall.{FramesCall}
 use Rattle.jg_words.specs.declared.call.frames.FramesCall.TheVariants.{PushLocalFrame, PopLocalFrame, EnsureLocalCapacity}
 use Rattle.jg_words.specs.declared.call.exceptions.ExceptionsCall.{ExceptionsCall}
 use Rattle.jg_words.specs.declared.call.exceptions.ExceptionsCall.TheVariants.{Throw, ExceptionOccurred, ExceptionDescribe, ExceptionClear, ExceptionCheck}
 use Rattle.jg_words.specs.declared.call.objects.ObjectsCall.{ObjectsCall}
-use Rattle.jg_words.specs.declared.call.objects.ObjectsCall.TheVariants.{FindClass, GetObjectClass, IsInstanceOf, AllocObject, GetFieldID, GetField, GetObjectField, SetField, SetObjectField}
+use Rattle.jg_words.specs.declared.call.objects.ObjectsCall.TheVariants.{FindClass, GetObjectClass, AllocObject, GetFieldID, GetObjectField, SetField, SetObjectField}
 use Rattle.jg_words.specs.declared.call.strings.StringsCall.{StringsCall}
-use Rattle.jg_words.specs.declared.call.strings.StringsCall.TheVariants.{NewString, NewStringUTF, GetStringLength, GetStringUTFLength, GetStringRegion}
+use Rattle.jg_words.specs.declared.call.strings.StringsCall.TheVariants.{NewString, NewStringUTF, GetStringRegion}
 use Rattle.jg_words.specs.declared.call.arrays.ArraysCall.{ArraysCall}
 use Rattle.jg_words.specs.declared.call.arrays.ArraysCall.TheVariants.{NewArray, GetArrayLength, GetArrayRegion, SetArrayRegion, NewObjectArray, GetObjectArrayElement, SetObjectArrayElement}
 use Rattle.jg_words.specs.declared.call.monitors.MonitorsCall.{MonitorsCall}
@@ -123,10 +123,7 @@ hands s p q t call Weak (Some o) xs told on_now here =
 
 thrown_known : (s : StatedSetup) (kind : Thrown) → nat_lt (class_thrown kind) (class_count s) ≡ true
 thrown_known s ArrayIndexOutOfBounds = grind (arith, nat_tests)
-thrown_known s StringIndexOutOfBounds = grind (arith, nat_tests)
-thrown_known s NoClassDefFound = grind (arith, nat_tests)
-thrown_known s NoSuchField = grind (arith, nat_tests)
-thrown_known s NoSuchMethod = grind (arith, nat_tests)
+thrown_known s call = grind (arith, nat_tests)
 
 throws : (s : StatedSetup) (p q : Parts) (t : Tid) (call : Call) (kind : Thrown) (xs : List Fact) → Alike s p q → is_attached q t.0 ≡ true
     → Brings s p q t call (thrown s q kind).reply.value (thrown s q kind).object xs
@@ -441,8 +438,7 @@ module _ (s : StatedSetup) (p q : Parts) (t : Tid) (env : Option EnvId) (known :
   refs_core (DeleteLocalRef r) u = local_lost s p q t r known u.alive u.right_kind
   refs_core (DeleteGlobalRef r) u = strong_lost s p q t r known u.alive u.right_kind
   refs_core (DeleteWeakGlobalRef r) u = weak_lost s p q t r known u.alive u.right_kind
-  refs_core (IsSameObject r v) u = nothing
-  refs_core (GetObjectRefType r) u = nothing
+  refs_core call u = nothing
 
   frames_core : (call : FramesCall) → Unbroken s q t.0 env (Frames call) → Core s p q t (Frames call)
   frames_core (PushLocalFrame capacity) u = push_told s p q known t (natural capacity) (present (Frames (PushLocalFrame capacity)) refl u)
@@ -476,7 +472,6 @@ module _ (s : StatedSetup) (p q : Parts) (t : Tid) (env : Option EnvId) (known :
       found_brings s p q t c (class_named s name) [] nothing known.same (present c refl u) (still c refl u) (answered_here c u)
   objects_core (GetObjectClass r) u =
       hands_call (Objects (GetObjectClass r)) Local (Some (class_of s q (the_object q t.0 r))) [] refl u nothing (answered_here (Objects (GetObjectClass r)) u)
-  objects_core (IsInstanceOf r class) u = nothing
   objects_core (AllocObject class) u =
       let c : Call = Objects (AllocObject class) in
       makes_call c (Plain (the_object q t.0 class) (map first_value (fields_in (class_at s (the_object q t.0 class))))) refl refl u (λ told. told)
@@ -484,12 +479,12 @@ module _ (s : StatedSetup) (p q : Parts) (t : Tid) (env : Option EnvId) (known :
   objects_core (GetFieldID class field signature) u =
       let c : Call = Objects (GetFieldID class field signature) in
       field_brings s p q t c (field_meant s (class_meant s q t.0 class) field signature) [] nothing known.same (present c refl u)
-  objects_core (GetField primitive r field) u = nothing
   objects_core (GetObjectField r field) u =
       hands_call (Objects (GetObjectField r field)) Local (target_in (field_value s q (the_object q t.0 r) field)) [] refl u nothing
       (answered_here (Objects (GetObjectField r field)) u)
   objects_core (SetField primitive r field value) u = wrote_told s p q (the_object q t.0 r) (slot_place field) (Number value) known.same
   objects_core (SetObjectField r field value) u = wrote_told s p q (the_object q t.0 r) (slot_place field) (pointer (object_named q t.0 value)) known.same
+  objects_core call u = nothing
 
   strings_core : (call : StringsCall) → Unbroken s q t.0 env (Strings call) → Core s p q t (Strings call)
   strings_core (NewString units) u =
@@ -497,13 +492,12 @@ module _ (s : StatedSetup) (p q : Parts) (t : Tid) (env : Option EnvId) (known :
   strings_core (NewStringUTF bytes) u =
       makes_call (Strings (NewStringUTF bytes)) (Text (unwrap_or (decoded bytes) [])) refl refl u (λ told. told)
       (answered_here (Strings (NewStringUTF bytes)) u)
-  strings_core (GetStringLength r) u = nothing
-  strings_core (GetStringUTFLength r) u = nothing
   strings_core (GetStringRegion r start n) u =
       let c : Call = Strings (GetStringRegion r start n) in
       let o : ℕ = the_object q t.0 r in
       outside_brings s p q t c StringIndexOutOfBounds (is_outside start n (length (units_of s q o))) (region (map pos (units_of s q o)) start n) [] known.same
       (present c refl u) (λ inside. nothing)
+  strings_core call u = nothing
 
   -- an element is handed out where it is within
   element_core : (r : Ref) (index : ℤ) (b : Bool) → is_outside index (pos 1) (length_of s q (the_object q t.0 r)) ≡ b

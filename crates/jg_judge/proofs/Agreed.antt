@@ -10,11 +10,11 @@ use Rattle.jg_words.specs.declared.rule.Rule.{Rule}
 use Rattle.jg_words.specs.declared.rule.Rule.TheVariants.{WrongThread, Detached, InCritical, Pending, ForeignLocal, DeadReference, WrongRefKind, NullReference, WrongType, BadField, BadBuffer, BadArgument, Pinned, NotOwner, BadFrame, NoNativeAccess, NotLinked}
 use Rattle.jg_words.specs.declared.call.Call.{Call}
 use Rattle.jg_words.specs.declared.call.Call.TheVariants.{Vm, Refs, Frames, Exceptions, Objects, Strings, Arrays, Monitors, Buffers}
-use Rattle.jg_words.specs.declared.call.vm.VmCall.TheVariants.{AttachCurrentThread, DetachCurrentThread, GetEnv, NativeEnter, NativeLeave, LoadLibrary, RegisterNatives, UnregisterNatives, Collect}
-use Rattle.jg_words.specs.declared.call.refs.RefsCall.TheVariants.{NewLocalRef, NewGlobalRef, NewWeakGlobalRef, DeleteLocalRef, DeleteGlobalRef, DeleteWeakGlobalRef, IsSameObject, GetObjectRefType}
+use Rattle.jg_words.specs.declared.call.vm.VmCall.TheVariants.{NativeEnter, NativeLeave, LoadLibrary, RegisterNatives, UnregisterNatives}
+use Rattle.jg_words.specs.declared.call.refs.RefsCall.TheVariants.{NewLocalRef, NewGlobalRef, NewWeakGlobalRef, DeleteLocalRef, DeleteGlobalRef, DeleteWeakGlobalRef, IsSameObject}
 use Rattle.jg_words.specs.declared.call.frames.FramesCall.TheVariants.{PushLocalFrame, PopLocalFrame, EnsureLocalCapacity}
-use Rattle.jg_words.specs.declared.call.exceptions.ExceptionsCall.TheVariants.{Throw, ExceptionOccurred, ExceptionDescribe, ExceptionClear, ExceptionCheck}
-use Rattle.jg_words.specs.declared.call.objects.ObjectsCall.TheVariants.{FindClass, GetObjectClass, IsInstanceOf, AllocObject, GetFieldID, GetField, GetObjectField, SetField, SetObjectField}
+use Rattle.jg_words.specs.declared.call.exceptions.ExceptionsCall.TheVariants.{Throw}
+use Rattle.jg_words.specs.declared.call.objects.ObjectsCall.TheVariants.{GetObjectClass, IsInstanceOf, AllocObject, GetFieldID, GetField, GetObjectField, SetField, SetObjectField}
 use Rattle.jg_words.specs.declared.call.strings.StringsCall.TheVariants.{NewString, NewStringUTF, GetStringLength, GetStringUTFLength, GetStringRegion}
 use Rattle.jg_words.specs.declared.call.arrays.ArraysCall.TheVariants.{NewArray, GetArrayLength, GetArrayRegion, SetArrayRegion, NewObjectArray, GetObjectArrayElement, SetObjectArrayElement}
 use Rattle.jg_words.specs.declared.call.monitors.MonitorsCall.TheVariants.{MonitorEnter, MonitorExit}
@@ -69,15 +69,12 @@ none_own : (s : StatedSetup) (p : Parts) (kind : OwnKind) (o : ℕ) → AreState
 none_own s p kind o all = let below = all o in ne_eqb (class_of s p o) (own_class s kind) (λ same. omega (arith, below, same))
 
 kinds_agree : (s : StatedSetup) (p : Parts) (type : ObjectType) (o : ℕ) → AreStated s p → is_kind s p (kind_of type) o ≡ is_of s p type o
-kinds_agree s p AnyObject o all = refl
 kinds_agree s p ClassObject o all = rw (none_own s p own.Class o all, none_own s p own.ClassOfArrays o all) (or-false _)
 kinds_agree s p PlainClass o all = rw (none_own s p own.Class o all) (or-false _)
 kinds_agree s p ThrowableObject o all = rw (none_own s p own.Throwable o all) (or-false _)
-kinds_agree s p StringObject o all = refl
 kinds_agree s p AnyArray o all = rw (none_own s p own.Floats o all, none_own s p own.Doubles o all) (or-false _)
 kinds_agree s p PrimitiveArray o all = rw (none_own s p own.Floats o all, none_own s p own.Doubles o all) (or-false _)
-kinds_agree s p (ArrayOf element) o all = refl
-kinds_agree s p ObjectArray o all = refl
+kinds_agree s p call o all = refl
 
 wrong_same : (s : StatedSetup) (p : Parts) → AreStated s p → (type : ObjectType) (named : Named)
     → is_wrong_kind s p (kind_of type) named ≡ rules.is_wrong s p type named
@@ -125,54 +122,6 @@ record Agrees (s : StatedSetup) (p : Parts) (t : ℕ) (call : Call) (takes : Lis
   linked : not_linked s p (effect_of (fun_of call)) xs ≡ rules.not_linked s p call
 
 agrees : (s : StatedSetup) (p : Parts) (t : ℕ) (call : Call) → AreStated s p → Agrees s p t call (takes_of (fun_of call)) (arguments_of s p t call)
-agrees s p t (Vm AttachCurrentThread) all = record {
-  machine = refl;
-  foreign = refl;
-  dead = refl;
-  kind = refl;
-  null = refl;
-  type = refl;
-  field = refl;
-  buffer = refl;
-  argument = refl;
-  pins = refl;
-  owner = refl;
-  frame = refl;
-  access = refl;
-  linked = refl;
-}
-agrees s p t (Vm DetachCurrentThread) all = record {
-  machine = refl;
-  foreign = refl;
-  dead = refl;
-  kind = refl;
-  null = refl;
-  type = refl;
-  field = refl;
-  buffer = refl;
-  argument = refl;
-  pins = refl;
-  owner = refl;
-  frame = refl;
-  access = refl;
-  linked = refl;
-}
-agrees s p t (Vm GetEnv) all = record {
-  machine = refl;
-  foreign = refl;
-  dead = refl;
-  kind = refl;
-  null = refl;
-  type = refl;
-  field = refl;
-  buffer = refl;
-  argument = refl;
-  pins = refl;
-  owner = refl;
-  frame = refl;
-  access = refl;
-  linked = refl;
-}
 agrees s p t (Vm (NativeEnter class method signature)) all = record {
   machine = refl;
   foreign = refl;
@@ -252,22 +201,6 @@ agrees s p t (Vm (UnregisterNatives class)) all = record {
   access = refl;
   linked = refl;
   type = rw (wrong_same s p all ClassObject (names p t class)) refl;
-}
-agrees s p t (Vm Collect) all = record {
-  machine = refl;
-  foreign = refl;
-  dead = refl;
-  kind = refl;
-  null = refl;
-  type = refl;
-  field = refl;
-  buffer = refl;
-  argument = refl;
-  pins = refl;
-  owner = refl;
-  frame = refl;
-  access = refl;
-  linked = refl;
 }
 agrees s p t (Refs (NewLocalRef r)) all = record {
   machine = refl;
@@ -381,22 +314,6 @@ agrees s p t (Refs (IsSameObject r u)) all = record {
   linked = refl;
   type = rw (wrong_same s p all AnyObject (names p t r), wrong_same s p all AnyObject (names p t u)) refl;
 }
-agrees s p t (Refs (GetObjectRefType r)) all = record {
-  machine = refl;
-  foreign = refl;
-  dead = refl;
-  kind = refl;
-  null = refl;
-  type = refl;
-  field = refl;
-  buffer = refl;
-  argument = refl;
-  pins = refl;
-  owner = refl;
-  frame = refl;
-  access = refl;
-  linked = refl;
-}
 agrees s p t (Frames (PushLocalFrame capacity)) all = record {
   machine = refl;
   foreign = refl;
@@ -460,86 +377,6 @@ agrees s p t (Exceptions (Throw r)) all = record {
   access = refl;
   linked = refl;
   type = rw (wrong_same s p all ThrowableObject (names p t r)) refl;
-}
-agrees s p t (Exceptions ExceptionOccurred) all = record {
-  machine = refl;
-  foreign = refl;
-  dead = refl;
-  kind = refl;
-  null = refl;
-  type = refl;
-  field = refl;
-  buffer = refl;
-  argument = refl;
-  pins = refl;
-  owner = refl;
-  frame = refl;
-  access = refl;
-  linked = refl;
-}
-agrees s p t (Exceptions ExceptionDescribe) all = record {
-  machine = refl;
-  foreign = refl;
-  dead = refl;
-  kind = refl;
-  null = refl;
-  type = refl;
-  field = refl;
-  buffer = refl;
-  argument = refl;
-  pins = refl;
-  owner = refl;
-  frame = refl;
-  access = refl;
-  linked = refl;
-}
-agrees s p t (Exceptions ExceptionClear) all = record {
-  machine = refl;
-  foreign = refl;
-  dead = refl;
-  kind = refl;
-  null = refl;
-  type = refl;
-  field = refl;
-  buffer = refl;
-  argument = refl;
-  pins = refl;
-  owner = refl;
-  frame = refl;
-  access = refl;
-  linked = refl;
-}
-agrees s p t (Exceptions ExceptionCheck) all = record {
-  machine = refl;
-  foreign = refl;
-  dead = refl;
-  kind = refl;
-  null = refl;
-  type = refl;
-  field = refl;
-  buffer = refl;
-  argument = refl;
-  pins = refl;
-  owner = refl;
-  frame = refl;
-  access = refl;
-  linked = refl;
-}
-agrees s p t (Objects (FindClass name)) all = record {
-  machine = refl;
-  foreign = refl;
-  dead = refl;
-  kind = refl;
-  null = refl;
-  type = refl;
-  field = refl;
-  buffer = refl;
-  argument = refl;
-  pins = refl;
-  owner = refl;
-  frame = refl;
-  access = refl;
-  linked = refl;
 }
 agrees s p t (Objects (GetObjectClass r)) all = record {
   machine = refl;
@@ -1084,6 +921,22 @@ agrees s p t (Buffers (BufferWrite b index value)) all = record {
   linked = refl;
   buffer = or-false _;
   argument = item_bounds s p index value (buffer_named p b);
+}
+agrees s p t call all = record {
+  machine = refl;
+  foreign = refl;
+  dead = refl;
+  kind = refl;
+  null = refl;
+  type = refl;
+  field = refl;
+  buffer = refl;
+  argument = refl;
+  pins = refl;
+  owner = refl;
+  frame = refl;
+  access = refl;
+  linked = refl;
 }
 
 -- ---- the verdict

@@ -1,6 +1,6 @@
 -- The rows of the functions that the written machine has.
 use Rattle.std.proofs.Common.{◌≡◌, List, [], ◌∷◌, refl}
-use Rattle.jg_words.specs.declared.object.Primitive.TheVariants.{Boolean, Byte, Char, Short, Int, Long}
+use Rattle.jg_words.specs.declared.object.Primitive.TheVariants.{Boolean, Char}
 use Rattle.jg_words.specs.declared.object.ItemType.TheVariants.{Of}
 use Rattle.jg_words.specs.declared.reference.Kind.TheVariants.{Local, Global, Weak}
 use Rattle.jg_words.specs.declared.fun.Fun.{Fun}
@@ -93,7 +93,6 @@ takes_of (Buffers BufferWrite) = Writable ∷ Place ∷ Item ∷ []
 abbrev pub effect_of : Fun → Effect
 effect_of (Vm AttachCurrentThread) = Attaches
 effect_of (Vm DetachCurrentThread) = Detaches
-effect_of (Vm GetEnv) = Nothing
 effect_of (Vm NativeEnter) = Enters
 effect_of (Vm NativeLeave) = Leaves
 effect_of (Vm LoadLibrary) = Loads
@@ -106,8 +105,6 @@ effect_of (Refs NewWeakGlobalRef) = Hands Weak
 effect_of (Refs DeleteLocalRef) = Ends Local
 effect_of (Refs DeleteGlobalRef) = Ends Global
 effect_of (Refs DeleteWeakGlobalRef) = Ends Weak
-effect_of (Refs IsSameObject) = Nothing
-effect_of (Refs GetObjectRefType) = Nothing
 effect_of (Frames PushLocalFrame) = Pushes
 effect_of (Frames PopLocalFrame) = Pops
 effect_of (Frames EnsureLocalCapacity) = Ensures
@@ -115,28 +112,15 @@ effect_of (Exceptions Throw) = Raises
 effect_of (Exceptions ExceptionOccurred) = Hands Local
 effect_of (Exceptions ExceptionDescribe) = Calms
 effect_of (Exceptions ExceptionClear) = Calms
-effect_of (Exceptions ExceptionCheck) = Nothing
 effect_of (Objects FindClass) = Hands Local
 effect_of (Objects GetObjectClass) = Hands Local
-effect_of (Objects IsInstanceOf) = Nothing
 effect_of (Objects AllocObject) = Hands Local
-effect_of (Objects GetFieldID) = Nothing
-effect_of (Objects (GetField primitive)) = Nothing
 effect_of (Objects GetObjectField) = Hands Local
-effect_of (Objects (SetField primitive)) = Nothing
-effect_of (Objects SetObjectField) = Nothing
 effect_of (Strings NewString) = Hands Local
 effect_of (Strings NewStringUTF) = Hands Local
-effect_of (Strings GetStringLength) = Nothing
-effect_of (Strings GetStringUTFLength) = Nothing
-effect_of (Strings GetStringRegion) = Nothing
 effect_of (Arrays (NewArray primitive)) = Hands Local
-effect_of (Arrays GetArrayLength) = Nothing
-effect_of (Arrays (GetArrayRegion primitive)) = Nothing
-effect_of (Arrays (SetArrayRegion primitive)) = Nothing
 effect_of (Arrays NewObjectArray) = Hands Local
 effect_of (Arrays GetObjectArrayElement) = Hands Local
-effect_of (Arrays SetObjectArrayElement) = Nothing
 effect_of (Monitors MonitorEnter) = Owns
 effect_of (Monitors MonitorExit) = Frees
 effect_of (Buffers (GetArrayElements primitive)) = Lends (Elements (Of primitive))
@@ -149,8 +133,7 @@ effect_of (Buffers GetPrimitiveArrayCritical) = Lends ArrayCritical
 effect_of (Buffers ReleasePrimitiveArrayCritical) = GivesBack
 effect_of (Buffers GetStringCritical) = Lends StringCritical
 effect_of (Buffers ReleaseStringCritical) = GivesBack
-effect_of (Buffers BufferRead) = Nothing
-effect_of (Buffers BufferWrite) = Nothing
+effect_of fun = Nothing
 
 -- what the rules read of the function's row
 pub record IsRow (fun : Fun) (row : Columns) : Type 0 where
@@ -162,97 +145,17 @@ pub record IsRow (fun : Fun) (row : Columns) : Type 0 where
 
 pub row_is : (fun : Fun) → IsRow fun (row_for fun)
 row_is (Vm AttachCurrentThread) = record { takes = refl; env = refl; critical = refl; pending = refl; effect = refl }
-row_is (Vm DetachCurrentThread) = record { takes = refl; env = refl; critical = refl; pending = refl; effect = refl }
-row_is (Vm GetEnv) = record { takes = refl; env = refl; critical = refl; pending = refl; effect = refl }
-row_is (Vm NativeEnter) = record { takes = refl; env = refl; critical = refl; pending = refl; effect = refl }
-row_is (Vm NativeLeave) = record { takes = refl; env = refl; critical = refl; pending = refl; effect = refl }
-row_is (Vm LoadLibrary) = record { takes = refl; env = refl; critical = refl; pending = refl; effect = refl }
-row_is (Vm RegisterNatives) = record { takes = refl; env = refl; critical = refl; pending = refl; effect = refl }
-row_is (Vm UnregisterNatives) = record { takes = refl; env = refl; critical = refl; pending = refl; effect = refl }
-row_is (Vm Collect) = record { takes = refl; env = refl; critical = refl; pending = refl; effect = refl }
 row_is (Refs NewLocalRef) = record { takes = refl; env = refl; critical = refl; pending = refl; effect = refl }
-row_is (Refs NewGlobalRef) = record { takes = refl; env = refl; critical = refl; pending = refl; effect = refl }
-row_is (Refs NewWeakGlobalRef) = record { takes = refl; env = refl; critical = refl; pending = refl; effect = refl }
-row_is (Refs DeleteLocalRef) = record { takes = refl; env = refl; critical = refl; pending = refl; effect = refl }
-row_is (Refs DeleteGlobalRef) = record { takes = refl; env = refl; critical = refl; pending = refl; effect = refl }
-row_is (Refs DeleteWeakGlobalRef) = record { takes = refl; env = refl; critical = refl; pending = refl; effect = refl }
-row_is (Refs IsSameObject) = record { takes = refl; env = refl; critical = refl; pending = refl; effect = refl }
-row_is (Refs GetObjectRefType) = record { takes = refl; env = refl; critical = refl; pending = refl; effect = refl }
 row_is (Frames PushLocalFrame) = record { takes = refl; env = refl; critical = refl; pending = refl; effect = refl }
-row_is (Frames PopLocalFrame) = record { takes = refl; env = refl; critical = refl; pending = refl; effect = refl }
-row_is (Frames EnsureLocalCapacity) = record { takes = refl; env = refl; critical = refl; pending = refl; effect = refl }
 row_is (Exceptions Throw) = record { takes = refl; env = refl; critical = refl; pending = refl; effect = refl }
-row_is (Exceptions ExceptionOccurred) = record { takes = refl; env = refl; critical = refl; pending = refl; effect = refl }
-row_is (Exceptions ExceptionDescribe) = record { takes = refl; env = refl; critical = refl; pending = refl; effect = refl }
-row_is (Exceptions ExceptionClear) = record { takes = refl; env = refl; critical = refl; pending = refl; effect = refl }
-row_is (Exceptions ExceptionCheck) = record { takes = refl; env = refl; critical = refl; pending = refl; effect = refl }
 row_is (Objects FindClass) = record { takes = refl; env = refl; critical = refl; pending = refl; effect = refl }
-row_is (Objects GetObjectClass) = record { takes = refl; env = refl; critical = refl; pending = refl; effect = refl }
-row_is (Objects IsInstanceOf) = record { takes = refl; env = refl; critical = refl; pending = refl; effect = refl }
-row_is (Objects AllocObject) = record { takes = refl; env = refl; critical = refl; pending = refl; effect = refl }
-row_is (Objects GetFieldID) = record { takes = refl; env = refl; critical = refl; pending = refl; effect = refl }
 row_is (Objects (GetField Boolean)) = record { takes = refl; env = refl; critical = refl; pending = refl; effect = refl }
-row_is (Objects (GetField Byte)) = record { takes = refl; env = refl; critical = refl; pending = refl; effect = refl }
-row_is (Objects (GetField Char)) = record { takes = refl; env = refl; critical = refl; pending = refl; effect = refl }
-row_is (Objects (GetField Short)) = record { takes = refl; env = refl; critical = refl; pending = refl; effect = refl }
-row_is (Objects (GetField Int)) = record { takes = refl; env = refl; critical = refl; pending = refl; effect = refl }
-row_is (Objects (GetField Long)) = record { takes = refl; env = refl; critical = refl; pending = refl; effect = refl }
-row_is (Objects GetObjectField) = record { takes = refl; env = refl; critical = refl; pending = refl; effect = refl }
 row_is (Objects (SetField Boolean)) = record { takes = refl; env = refl; critical = refl; pending = refl; effect = refl }
-row_is (Objects (SetField Byte)) = record { takes = refl; env = refl; critical = refl; pending = refl; effect = refl }
-row_is (Objects (SetField Char)) = record { takes = refl; env = refl; critical = refl; pending = refl; effect = refl }
-row_is (Objects (SetField Short)) = record { takes = refl; env = refl; critical = refl; pending = refl; effect = refl }
-row_is (Objects (SetField Int)) = record { takes = refl; env = refl; critical = refl; pending = refl; effect = refl }
-row_is (Objects (SetField Long)) = record { takes = refl; env = refl; critical = refl; pending = refl; effect = refl }
-row_is (Objects SetObjectField) = record { takes = refl; env = refl; critical = refl; pending = refl; effect = refl }
 row_is (Strings NewString) = record { takes = refl; env = refl; critical = refl; pending = refl; effect = refl }
-row_is (Strings NewStringUTF) = record { takes = refl; env = refl; critical = refl; pending = refl; effect = refl }
-row_is (Strings GetStringLength) = record { takes = refl; env = refl; critical = refl; pending = refl; effect = refl }
-row_is (Strings GetStringUTFLength) = record { takes = refl; env = refl; critical = refl; pending = refl; effect = refl }
-row_is (Strings GetStringRegion) = record { takes = refl; env = refl; critical = refl; pending = refl; effect = refl }
 row_is (Arrays (NewArray Boolean)) = record { takes = refl; env = refl; critical = refl; pending = refl; effect = refl }
-row_is (Arrays (NewArray Byte)) = record { takes = refl; env = refl; critical = refl; pending = refl; effect = refl }
-row_is (Arrays (NewArray Char)) = record { takes = refl; env = refl; critical = refl; pending = refl; effect = refl }
-row_is (Arrays (NewArray Short)) = record { takes = refl; env = refl; critical = refl; pending = refl; effect = refl }
-row_is (Arrays (NewArray Int)) = record { takes = refl; env = refl; critical = refl; pending = refl; effect = refl }
-row_is (Arrays (NewArray Long)) = record { takes = refl; env = refl; critical = refl; pending = refl; effect = refl }
-row_is (Arrays GetArrayLength) = record { takes = refl; env = refl; critical = refl; pending = refl; effect = refl }
 row_is (Arrays (GetArrayRegion Boolean)) = record { takes = refl; env = refl; critical = refl; pending = refl; effect = refl }
-row_is (Arrays (GetArrayRegion Byte)) = record { takes = refl; env = refl; critical = refl; pending = refl; effect = refl }
-row_is (Arrays (GetArrayRegion Char)) = record { takes = refl; env = refl; critical = refl; pending = refl; effect = refl }
-row_is (Arrays (GetArrayRegion Short)) = record { takes = refl; env = refl; critical = refl; pending = refl; effect = refl }
-row_is (Arrays (GetArrayRegion Int)) = record { takes = refl; env = refl; critical = refl; pending = refl; effect = refl }
-row_is (Arrays (GetArrayRegion Long)) = record { takes = refl; env = refl; critical = refl; pending = refl; effect = refl }
 row_is (Arrays (SetArrayRegion Boolean)) = record { takes = refl; env = refl; critical = refl; pending = refl; effect = refl }
-row_is (Arrays (SetArrayRegion Byte)) = record { takes = refl; env = refl; critical = refl; pending = refl; effect = refl }
-row_is (Arrays (SetArrayRegion Char)) = record { takes = refl; env = refl; critical = refl; pending = refl; effect = refl }
-row_is (Arrays (SetArrayRegion Short)) = record { takes = refl; env = refl; critical = refl; pending = refl; effect = refl }
-row_is (Arrays (SetArrayRegion Int)) = record { takes = refl; env = refl; critical = refl; pending = refl; effect = refl }
-row_is (Arrays (SetArrayRegion Long)) = record { takes = refl; env = refl; critical = refl; pending = refl; effect = refl }
-row_is (Arrays NewObjectArray) = record { takes = refl; env = refl; critical = refl; pending = refl; effect = refl }
-row_is (Arrays GetObjectArrayElement) = record { takes = refl; env = refl; critical = refl; pending = refl; effect = refl }
-row_is (Arrays SetObjectArrayElement) = record { takes = refl; env = refl; critical = refl; pending = refl; effect = refl }
 row_is (Monitors MonitorEnter) = record { takes = refl; env = refl; critical = refl; pending = refl; effect = refl }
-row_is (Monitors MonitorExit) = record { takes = refl; env = refl; critical = refl; pending = refl; effect = refl }
 row_is (Buffers (GetArrayElements Boolean)) = record { takes = refl; env = refl; critical = refl; pending = refl; effect = refl }
-row_is (Buffers (GetArrayElements Byte)) = record { takes = refl; env = refl; critical = refl; pending = refl; effect = refl }
-row_is (Buffers (GetArrayElements Char)) = record { takes = refl; env = refl; critical = refl; pending = refl; effect = refl }
-row_is (Buffers (GetArrayElements Short)) = record { takes = refl; env = refl; critical = refl; pending = refl; effect = refl }
-row_is (Buffers (GetArrayElements Int)) = record { takes = refl; env = refl; critical = refl; pending = refl; effect = refl }
-row_is (Buffers (GetArrayElements Long)) = record { takes = refl; env = refl; critical = refl; pending = refl; effect = refl }
 row_is (Buffers (ReleaseArrayElements Boolean)) = record { takes = refl; env = refl; critical = refl; pending = refl; effect = refl }
-row_is (Buffers (ReleaseArrayElements Byte)) = record { takes = refl; env = refl; critical = refl; pending = refl; effect = refl }
-row_is (Buffers (ReleaseArrayElements Char)) = record { takes = refl; env = refl; critical = refl; pending = refl; effect = refl }
-row_is (Buffers (ReleaseArrayElements Short)) = record { takes = refl; env = refl; critical = refl; pending = refl; effect = refl }
-row_is (Buffers (ReleaseArrayElements Int)) = record { takes = refl; env = refl; critical = refl; pending = refl; effect = refl }
-row_is (Buffers (ReleaseArrayElements Long)) = record { takes = refl; env = refl; critical = refl; pending = refl; effect = refl }
-row_is (Buffers GetStringChars) = record { takes = refl; env = refl; critical = refl; pending = refl; effect = refl }
-row_is (Buffers ReleaseStringChars) = record { takes = refl; env = refl; critical = refl; pending = refl; effect = refl }
-row_is (Buffers GetStringUTFChars) = record { takes = refl; env = refl; critical = refl; pending = refl; effect = refl }
-row_is (Buffers ReleaseStringUTFChars) = record { takes = refl; env = refl; critical = refl; pending = refl; effect = refl }
-row_is (Buffers GetPrimitiveArrayCritical) = record { takes = refl; env = refl; critical = refl; pending = refl; effect = refl }
-row_is (Buffers ReleasePrimitiveArrayCritical) = record { takes = refl; env = refl; critical = refl; pending = refl; effect = refl }
-row_is (Buffers GetStringCritical) = record { takes = refl; env = refl; critical = refl; pending = refl; effect = refl }
-row_is (Buffers ReleaseStringCritical) = record { takes = refl; env = refl; critical = refl; pending = refl; effect = refl }
-row_is (Buffers BufferRead) = record { takes = refl; env = refl; critical = refl; pending = refl; effect = refl }
-row_is (Buffers BufferWrite) = record { takes = refl; env = refl; critical = refl; pending = refl; effect = refl }
+row_is fun = record { takes = refl; env = refl; critical = refl; pending = refl; effect = refl }

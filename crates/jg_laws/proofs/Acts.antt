@@ -6,9 +6,9 @@ use Rattle.jg_words.specs.Call.{fun_of}
 use Rattle.jg_words.specs.Fun.{needs_env}
 use Rattle.jg_words.specs.declared.thread.EnvId.{EnvId}
 use Rattle.jg_words.specs.declared.call.Call.{Call}
-use Rattle.jg_words.specs.declared.call.Call.TheVariants.{Vm, Refs, Frames, Exceptions, Objects, Strings, Arrays, Monitors, Buffers}
-use Rattle.jg_words.specs.declared.call.vm.VmCall.TheVariants.{AttachCurrentThread, DetachCurrentThread, GetEnv, NativeEnter, NativeLeave, LoadLibrary, RegisterNatives, UnregisterNatives, Collect}
-use Rattle.jg_words.specs.declared.call.exceptions.ExceptionsCall.TheVariants.{Throw, ExceptionOccurred, ExceptionDescribe, ExceptionClear, ExceptionCheck}
+use Rattle.jg_words.specs.declared.call.Call.TheVariants.{Vm, Exceptions}
+use Rattle.jg_words.specs.declared.call.vm.VmCall.TheVariants.{AttachCurrentThread, DetachCurrentThread}
+use Rattle.jg_words.specs.declared.call.exceptions.ExceptionsCall.TheVariants.{Throw}
 use Rattle.jg_policy.specs.Stated.{StatedSetup}
 use Rattle.jg_table_threads.specs.History.{Act, Attach, Detach, Enter, Leave, Raise, Calm, CountRef, CountBuffer, Event, by, acts_of, how_many, attached, refs, is_count_ref, buffers, is_count_buffer}
 use Rattle.jg_table_locals.proofs.Callers.{each_thread}
@@ -57,26 +57,8 @@ refs_quiet te u (a ∷ acts) quiet t = refs_if (is_count_ref a) te u a acts (ref
 -- no call hands out a reference among its own events
 call_quiet : (s : StatedSetup) (p : Parts) (t : ℕ) (call : Call) → are_quiet (call_threads s p t call) ≡ true
 call_quiet s p t (Vm AttachCurrentThread) = refl
-call_quiet s p t (Vm DetachCurrentThread) = refl
-call_quiet s p t (Vm GetEnv) = refl
-call_quiet s p t (Vm (NativeEnter class method signature)) = refl
-call_quiet s p t (Vm (NativeLeave kept)) = refl
-call_quiet s p t (Vm (LoadLibrary class library)) = refl
-call_quiet s p t (Vm (RegisterNatives class method signature)) = refl
-call_quiet s p t (Vm (UnregisterNatives class)) = refl
-call_quiet s p t (Vm Collect) = refl
-call_quiet s p t (Refs call) = refl
-call_quiet s p t (Frames call) = refl
 call_quiet s p t (Exceptions (Throw r)) = refl
-call_quiet s p t (Exceptions ExceptionOccurred) = refl
-call_quiet s p t (Exceptions ExceptionDescribe) = refl
-call_quiet s p t (Exceptions ExceptionClear) = refl
-call_quiet s p t (Exceptions ExceptionCheck) = refl
-call_quiet s p t (Objects call) = refl
-call_quiet s p t (Strings call) = refl
-call_quiet s p t (Arrays call) = refl
-call_quiet s p t (Monitors call) = refl
-call_quiet s p t (Buffers call) = refl
+call_quiet s p t call = refl
 
 pub next_done : (s : StatedSetup) (p : Parts) (t : ℕ) (call : Call) (u : ℕ) → next_ref (done_by s t call p) u ≡ next_ref p u
 next_done s p t call u = ap (λ n. n + 1) (refs_quiet p.threads t (call_threads s p t call) (call_quiet s p t call) u)
@@ -109,27 +91,9 @@ stays_attached (CountBuffer ∷ acts) old is on = stays_attached acts old is on
 
 -- no call that takes an environment ends the session
 call_stays : (s : StatedSetup) (p : Parts) (t : ℕ) (call : Call) → needs_env (fun_of call) ≡ true → stay (call_threads s p t call) ≡ true
-call_stays s p t (Vm AttachCurrentThread) env = refl
 call_stays s p t (Vm DetachCurrentThread) env = absurd cc
-call_stays s p t (Vm GetEnv) env = refl
-call_stays s p t (Vm (NativeEnter class method signature)) env = refl
-call_stays s p t (Vm (NativeLeave kept)) env = refl
-call_stays s p t (Vm (LoadLibrary class library)) env = refl
-call_stays s p t (Vm (RegisterNatives class method signature)) env = refl
-call_stays s p t (Vm (UnregisterNatives class)) env = refl
-call_stays s p t (Vm Collect) env = refl
-call_stays s p t (Refs call) env = refl
-call_stays s p t (Frames call) env = refl
 call_stays s p t (Exceptions (Throw r)) env = refl
-call_stays s p t (Exceptions ExceptionOccurred) env = refl
-call_stays s p t (Exceptions ExceptionDescribe) env = refl
-call_stays s p t (Exceptions ExceptionClear) env = refl
-call_stays s p t (Exceptions ExceptionCheck) env = refl
-call_stays s p t (Objects call) env = refl
-call_stays s p t (Strings call) env = refl
-call_stays s p t (Arrays call) env = refl
-call_stays s p t (Monitors call) env = refl
-call_stays s p t (Buffers call) env = refl
+call_stays s p t call env = refl
 
 pub attached_done : (s : StatedSetup) (p : Parts) (t : ℕ) (call : Call) → needs_env (fun_of call) ≡ true → attached (acts_of t p.threads) ≡ true
     → attached (acts_of t (done_by s t call p).threads) ≡ true

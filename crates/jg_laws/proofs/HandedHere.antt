@@ -16,20 +16,20 @@ use Rattle.jg_words.specs.declared.reference.Kind.TheVariants.{Local, Global, We
 use Rattle.jg_words.specs.declared.value.Value.{Value}
 use Rattle.jg_words.specs.declared.value.Value.TheVariants.{Ok as Done, Number as Amount, Truth, Null as NullAnswer, Reference, Buffer as Lent, Field, Environment, List as Listed, Busy, Detached as NotAttached, Throw as Threw}
 use Rattle.jg_words.specs.declared.value.Thrown.{Thrown}
-use Rattle.jg_words.specs.declared.value.Thrown.TheVariants.{ArrayIndexOutOfBounds, StringIndexOutOfBounds, NoClassDefFound, NoSuchField, NoSuchMethod}
+use Rattle.jg_words.specs.declared.value.Thrown.TheVariants.{ArrayIndexOutOfBounds, StringIndexOutOfBounds}
 use Rattle.jg_words.specs.declared.rule.Rule.{Rule}
 use Rattle.jg_words.specs.Entry.{Entry}
 use Rattle.jg_words.specs.declared.call.Call.{Call}
 use Rattle.jg_words.specs.declared.call.Call.TheVariants.{Vm, Refs, Frames, Exceptions, Objects, Strings, Arrays, Monitors, Buffers}
-use Rattle.jg_words.specs.declared.call.vm.VmCall.TheVariants.{AttachCurrentThread, DetachCurrentThread, GetEnv, NativeEnter, NativeLeave, LoadLibrary, RegisterNatives, UnregisterNatives, Collect}
-use Rattle.jg_words.specs.declared.call.refs.RefsCall.TheVariants.{NewLocalRef, NewGlobalRef, NewWeakGlobalRef, DeleteLocalRef, DeleteGlobalRef, DeleteWeakGlobalRef, IsSameObject, GetObjectRefType}
-use Rattle.jg_words.specs.declared.call.frames.FramesCall.TheVariants.{PushLocalFrame, PopLocalFrame, EnsureLocalCapacity}
-use Rattle.jg_words.specs.declared.call.exceptions.ExceptionsCall.TheVariants.{Throw, ExceptionOccurred, ExceptionDescribe, ExceptionClear, ExceptionCheck}
-use Rattle.jg_words.specs.declared.call.objects.ObjectsCall.TheVariants.{FindClass, GetObjectClass, IsInstanceOf, AllocObject, GetFieldID, GetField, GetObjectField, SetField, SetObjectField}
-use Rattle.jg_words.specs.declared.call.strings.StringsCall.TheVariants.{NewString, NewStringUTF, GetStringLength, GetStringUTFLength, GetStringRegion}
-use Rattle.jg_words.specs.declared.call.arrays.ArraysCall.TheVariants.{NewArray, GetArrayLength, GetArrayRegion, SetArrayRegion, NewObjectArray, GetObjectArrayElement, SetObjectArrayElement}
-use Rattle.jg_words.specs.declared.call.buffers.BuffersCall.TheVariants.{GetArrayElements, ReleaseArrayElements, GetStringChars, ReleaseStringChars, GetStringUTFChars, ReleaseStringUTFChars, GetPrimitiveArrayCritical, ReleasePrimitiveArrayCritical, GetStringCritical, ReleaseStringCritical, BufferRead, BufferWrite}
-use Rattle.jg_words.specs.declared.call.monitors.MonitorsCall.TheVariants.{MonitorEnter, MonitorExit}
+use Rattle.jg_words.specs.declared.call.vm.VmCall.TheVariants.{GetEnv, NativeEnter, NativeLeave, RegisterNatives}
+use Rattle.jg_words.specs.declared.call.refs.RefsCall.TheVariants.{NewLocalRef, NewGlobalRef, NewWeakGlobalRef}
+use Rattle.jg_words.specs.declared.call.frames.FramesCall.TheVariants.{PopLocalFrame}
+use Rattle.jg_words.specs.declared.call.exceptions.ExceptionsCall.TheVariants.{Throw, ExceptionOccurred}
+use Rattle.jg_words.specs.declared.call.objects.ObjectsCall.TheVariants.{FindClass, GetObjectClass, AllocObject, GetFieldID, GetObjectField}
+use Rattle.jg_words.specs.declared.call.strings.StringsCall.TheVariants.{NewString, NewStringUTF, GetStringRegion}
+use Rattle.jg_words.specs.declared.call.arrays.ArraysCall.TheVariants.{NewArray, GetArrayRegion, SetArrayRegion, NewObjectArray, GetObjectArrayElement, SetObjectArrayElement}
+use Rattle.jg_words.specs.declared.call.buffers.BuffersCall.TheVariants.{GetArrayElements}
+use Rattle.jg_words.specs.declared.call.monitors.MonitorsCall.TheVariants.{MonitorEnter}
 use Rattle.jg_policy.specs.Stated.{StatedSetup, class_count}
 use Rattle.jg_policy.specs.Classes.{class_named, class_at, fields_in, field_type}
 use Rattle.jg_table_globals.specs.History as globals
@@ -210,8 +210,6 @@ written_here s p false events = tt
 pub answer_here : (s : StatedSetup) (p : Parts) (t : Tid) (env : Option EnvId) (call : Call) → Unbroken s p t.0 env call → AllByRecursion (MakesStated s) p.heap
     → AllHere s p
     → AnswersHere (class_count s) (if_effective (is_effective (answer s p t call).reply.value) (call_heap s p t.0 call) ++ p.heap) (answer s p t call)
-answer_here s p t env (Vm AttachCurrentThread) kept stated all = tt
-answer_here s p t env (Vm DetachCurrentThread) kept stated all = tt
 answer_here s p t env (Vm GetEnv) kept stated all = reads (class_count s) p.heap (answer s p t (Vm GetEnv)) (env_here (class_count s) p.heap t (session p t.0))
 answer_here s p t env (Vm (NativeEnter class method signature)) kept stated all =
     reads (class_count s) p.heap (answer s p t (Vm (NativeEnter class method signature)))
@@ -221,12 +219,9 @@ answer_here s p t env (Vm (NativeLeave r)) kept stated all =
     reads (class_count s) p.heap (answer s p t (Vm (NativeLeave r)))
     (left_here (class_count s) p.heap (pending p t.0) (handed p t Local (object_named p t.0 r))
     (handed_here (class_count s) p.heap p t Local (object_named p t.0 r) (λ o is. named_here s p t.0 o r all is)))
-answer_here s p t env (Vm (LoadLibrary class library)) kept stated all = tt
 answer_here s p t env (Vm (RegisterNatives class method signature)) kept stated all =
     reads (class_count s) p.heap (answer s p t (Vm (RegisterNatives class method signature)))
     (registered_here s p (class_meant s p t.0 class) (native_meant s (class_meant s p t.0 class) method signature))
-answer_here s p t env (Vm (UnregisterNatives class)) kept stated all = tt
-answer_here s p t env (Vm Collect) kept stated all = tt
 answer_here s p t env (Refs (NewLocalRef r)) kept stated all =
     reads (class_count s) p.heap (answer s p t (Refs (NewLocalRef r)))
     (handed_here (class_count s) p.heap p t Local (object_named p t.0 r) (λ o is. named_here s p t.0 o r all is))
@@ -236,56 +231,39 @@ answer_here s p t env (Refs (NewGlobalRef r)) kept stated all =
 answer_here s p t env (Refs (NewWeakGlobalRef r)) kept stated all =
     reads (class_count s) p.heap (answer s p t (Refs (NewWeakGlobalRef r)))
     (handed_here (class_count s) p.heap p t Weak (object_named p t.0 r) (λ o is. named_here s p t.0 o r all is))
-answer_here s p t env (Refs (DeleteLocalRef r)) kept stated all = tt
-answer_here s p t env (Refs (DeleteGlobalRef r)) kept stated all = tt
-answer_here s p t env (Refs (DeleteWeakGlobalRef r)) kept stated all = tt
-answer_here s p t env (Refs (IsSameObject r u)) kept stated all = tt
-answer_here s p t env (Refs (GetObjectRefType r)) kept stated all = tt
-answer_here s p t env (Frames (PushLocalFrame capacity)) kept stated all = tt
 answer_here s p t env (Frames (PopLocalFrame r)) kept stated all =
     reads (class_count s) p.heap (answer s p t (Frames (PopLocalFrame r)))
     (handed_here (class_count s) p.heap p t Local (object_named p t.0 r) (λ o is. named_here s p t.0 o r all is))
-answer_here s p t env (Frames (EnsureLocalCapacity capacity)) kept stated all = tt
 answer_here s p t env (Exceptions (Throw r)) kept stated all =
     reads (class_count s) p.heap (answer s p t (Exceptions (Throw r)))
     (raised_here (class_count s) p.heap (object_named p t.0 r) (λ o is. named_here s p t.0 o r all is))
 answer_here s p t env (Exceptions ExceptionOccurred) kept stated all =
     reads (class_count s) p.heap (answer s p t (Exceptions ExceptionOccurred))
     (handed_here (class_count s) p.heap p t Local (pending p t.0) (λ o is. all.pending t.0 o is))
-answer_here s p t env (Exceptions ExceptionDescribe) kept stated all = tt
-answer_here s p t env (Exceptions ExceptionClear) kept stated all = tt
-answer_here s p t env (Exceptions ExceptionCheck) kept stated all = tt
 answer_here s p t env (Objects (FindClass name)) kept stated all =
     reads (class_count s) p.heap (answer s p t (Objects (FindClass name)))
     (found_here s p t (class_named s name) (λ o is. class_here (class_count s) p.heap o (class_below s name o is)))
 answer_here s p t env (Objects (GetObjectClass r)) kept stated all =
     class_here (class_count s) p.heap (class_of s p (the_object p t.0 r)) (class_known (is_here s p (the_object p t.0 r)) s _ (all.known (the_object p t.0 r)))
-answer_here s p t env (Objects (IsInstanceOf r class)) kept stated all = tt
 answer_here s p t env (Objects (AllocObject class)) kept stated all =
     here_new (class_count s) p.heap
     (Plain (the_object p t.0 class) (map first_value (fields_in (class_at s (the_object p t.0 class)))))
 answer_here s p t env (Objects (GetFieldID class field signature)) kept stated all =
     reads (class_count s) p.heap (answer s p t (Objects (GetFieldID class field signature)))
     (field_here s p (field_meant s (class_meant s p t.0 class) field signature))
-answer_here s p t env (Objects (GetField primitive r field)) kept stated all = tt
 answer_here s p t env (Objects (GetObjectField r field)) kept stated all =
     reads (class_count s) p.heap (answer s p t (Objects (GetObjectField r field)))
     (handed_here (class_count s) p.heap p t Local (target_in (field_value s p (the_object p t.0 r) field))
     (λ o is. field_named s p (names p t.0 r) field o false false stated all kept.right_field (the_named (names p t.0 r) false false kept.alive kept.not_null)
     is))
-answer_here s p t env (Objects (SetField primitive r field value)) kept stated all = tt
-answer_here s p t env (Objects (SetObjectField r field value)) kept stated all = tt
 answer_here s p t env (Strings (NewString units)) kept stated all = here_new (class_count s) p.heap (Text (map natural units))
 answer_here s p t env (Strings (NewStringUTF bytes)) kept stated all = here_new (class_count s) p.heap (Text (unwrap_or (decoded bytes) []))
-answer_here s p t env (Strings (GetStringLength r)) kept stated all = tt
-answer_here s p t env (Strings (GetStringUTFLength r)) kept stated all = tt
 answer_here s p t env (Strings (GetStringRegion r start n)) kept stated all =
     reads (class_count s) p.heap (answer s p t (Strings (GetStringRegion r start n)))
     (outside_here s p StringIndexOutOfBounds (is_outside start n (length (units_of s p (the_object p t.0 r))))
     (region (map pos (units_of s p (the_object p t.0 r))) start n) (λ is. tt))
 answer_here s p t env (Arrays (NewArray element n)) kept stated all =
     here_new (class_count s) p.heap (Filled (array_class element) (natural n) (Number (pos 0)))
-answer_here s p t env (Arrays (GetArrayLength r)) kept stated all = tt
 answer_here s p t env (Arrays (GetArrayRegion element r start n)) kept stated all =
     reads (class_count s) p.heap (answer s p t (Arrays (GetArrayRegion element r start n)))
     (outside_here s p ArrayIndexOutOfBounds (is_outside start n (length_of s p (the_object p t.0 r)))
@@ -305,19 +283,8 @@ answer_here s p t env (Arrays (SetObjectArrayElement r index value)) kept stated
 answer_here s p t env (Monitors (MonitorEnter r)) kept stated all =
     reads (class_count s) p.heap (answer s p t (Monitors (MonitorEnter r)))
     (enter_here (class_count s) p.heap (monitors.entering t.0 (monitors.owner p.monitors (the_object p t.0 r))))
-answer_here s p t env (Monitors (MonitorExit r)) kept stated all = tt
 answer_here s p t env (Buffers (GetArrayElements element r)) kept stated all = tt
-answer_here s p t env (Buffers (ReleaseArrayElements element r b mode)) kept stated all = tt
-answer_here s p t env (Buffers (GetStringChars r)) kept stated all = tt
-answer_here s p t env (Buffers (ReleaseStringChars r b)) kept stated all = tt
-answer_here s p t env (Buffers (GetStringUTFChars r)) kept stated all = tt
-answer_here s p t env (Buffers (ReleaseStringUTFChars r b)) kept stated all = tt
-answer_here s p t env (Buffers (GetPrimitiveArrayCritical r)) kept stated all = tt
-answer_here s p t env (Buffers (ReleasePrimitiveArrayCritical r b mode)) kept stated all = tt
-answer_here s p t env (Buffers (GetStringCritical r)) kept stated all = tt
-answer_here s p t env (Buffers (ReleaseStringCritical r b)) kept stated all = tt
-answer_here s p t env (Buffers (BufferRead b index)) kept stated all = tt
-answer_here s p t env (Buffers (BufferWrite b index value)) kept stated all = tt
+answer_here s p t env call kept stated all = tt
 
 -- ---- what is done with it
 
@@ -348,10 +315,7 @@ counted_here s q t a raises all =
 
 thrown_below : (s : StatedSetup) (kind : Thrown) → class_thrown kind < class_count s
 thrown_below s ArrayIndexOutOfBounds = omega arith
-thrown_below s StringIndexOutOfBounds = omega arith
-thrown_below s NoClassDefFound = omega arith
-thrown_below s NoSuchField = omega arith
-thrown_below s NoSuchMethod = omega arith
+thrown_below s call = omega arith
 
 -- an exception is made, and raised or not
 made_here : (s : StatedSetup) (q : Parts) (t : ℕ) (kind : Thrown) (acts : List threads.Act)

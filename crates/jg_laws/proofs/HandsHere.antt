@@ -12,12 +12,12 @@ use Rattle.jg_words.specs.declared.call.Call.{Call}
 use Rattle.jg_words.specs.declared.call.Call.TheVariants.{Vm, Refs, Frames, Exceptions, Objects, Strings, Arrays, Monitors, Buffers}
 use Rattle.jg_words.specs.declared.call.vm.VmCall.TheVariants.{AttachCurrentThread, DetachCurrentThread, GetEnv, NativeEnter, NativeLeave, LoadLibrary, RegisterNatives, UnregisterNatives, Collect}
 use Rattle.jg_words.specs.declared.call.refs.RefsCall.TheVariants.{NewLocalRef, NewGlobalRef, NewWeakGlobalRef, DeleteLocalRef, DeleteGlobalRef, DeleteWeakGlobalRef, IsSameObject, GetObjectRefType}
-use Rattle.jg_words.specs.declared.call.frames.FramesCall.TheVariants.{PushLocalFrame, PopLocalFrame, EnsureLocalCapacity}
+use Rattle.jg_words.specs.declared.call.frames.FramesCall.TheVariants.{PushLocalFrame}
 use Rattle.jg_words.specs.declared.call.exceptions.ExceptionsCall.TheVariants.{Throw, ExceptionOccurred, ExceptionDescribe, ExceptionClear, ExceptionCheck}
-use Rattle.jg_words.specs.declared.call.objects.ObjectsCall.TheVariants.{FindClass, GetObjectClass, IsInstanceOf, AllocObject, GetFieldID, GetField, GetObjectField, SetField, SetObjectField}
-use Rattle.jg_words.specs.declared.call.strings.StringsCall.TheVariants.{NewString, NewStringUTF, GetStringLength, GetStringUTFLength, GetStringRegion}
-use Rattle.jg_words.specs.declared.call.arrays.ArraysCall.TheVariants.{NewArray, GetArrayLength, GetArrayRegion, SetArrayRegion, NewObjectArray, GetObjectArrayElement, SetObjectArrayElement}
-use Rattle.jg_words.specs.declared.call.buffers.BuffersCall.TheVariants.{GetArrayElements, ReleaseArrayElements, GetStringChars, ReleaseStringChars, GetStringUTFChars, ReleaseStringUTFChars, GetPrimitiveArrayCritical, ReleasePrimitiveArrayCritical, GetStringCritical, ReleaseStringCritical, BufferRead, BufferWrite}
+use Rattle.jg_words.specs.declared.call.objects.ObjectsCall.TheVariants.{AllocObject, SetField, SetObjectField}
+use Rattle.jg_words.specs.declared.call.strings.StringsCall.TheVariants.{NewString, NewStringUTF}
+use Rattle.jg_words.specs.declared.call.arrays.ArraysCall.TheVariants.{NewArray, SetArrayRegion, NewObjectArray, SetObjectArrayElement}
+use Rattle.jg_words.specs.declared.call.buffers.BuffersCall.TheVariants.{ReleaseArrayElements, BufferWrite}
 use Rattle.jg_table_buffers.specs.declared.info.Info.{Info}
 use Rattle.jg_table_buffers.specs.History as buffers
 use Rattle.jg_policy.specs.Stated.{StatedSetup, StatedMember, class_count}
@@ -109,29 +109,12 @@ pinned_still k index v (Some info) e slots = pinned_if (buffers.is_critical info
 
 heap_done : (s : StatedSetup) (p : Parts) (t : ℕ) (env : Option EnvId) (call : Call) → Unbroken s p t env call
     → is_machine call ≡ false → AllHere s p → Still (class_count s) p.heap (call_heap s p t call ++ p.heap)
-heap_done s p t env (Vm AttachCurrentThread) kept own all = unmoved (class_count s) p.heap all.slots
-heap_done s p t env (Vm DetachCurrentThread) kept own all = unmoved (class_count s) p.heap all.slots
-heap_done s p t env (Vm GetEnv) kept own all = unmoved (class_count s) p.heap all.slots
-heap_done s p t env (Vm (NativeEnter class method signature)) kept own all = unmoved (class_count s) p.heap all.slots
-heap_done s p t env (Vm (NativeLeave kept_ref)) kept own all = unmoved (class_count s) p.heap all.slots
-heap_done s p t env (Vm (LoadLibrary class library)) kept own all = unmoved (class_count s) p.heap all.slots
-heap_done s p t env (Vm (RegisterNatives class method signature)) kept own all = unmoved (class_count s) p.heap all.slots
-heap_done s p t env (Vm (UnregisterNatives class)) kept own all = unmoved (class_count s) p.heap all.slots
 heap_done s p t env (Vm Collect) kept own all = absurd cc
-heap_done s p t env (Refs call) kept own all = unmoved (class_count s) p.heap all.slots
-heap_done s p t env (Frames call) kept own all = unmoved (class_count s) p.heap all.slots
-heap_done s p t env (Exceptions call) kept own all = unmoved (class_count s) p.heap all.slots
-heap_done s p t env (Objects (FindClass name)) kept own all = unmoved (class_count s) p.heap all.slots
-heap_done s p t env (Objects (GetObjectClass r)) kept own all = unmoved (class_count s) p.heap all.slots
-heap_done s p t env (Objects (IsInstanceOf r class)) kept own all = unmoved (class_count s) p.heap all.slots
 heap_done s p t env (Objects (AllocObject class)) kept own all =
     made_still (class_count s) p.heap _
     (plain_below s (the_object p t class)
     (first_is_of s p PlainClass (names p t class) false false false kept.alive kept.not_null kept.right_type)) all.slots
     (λ j o within is. absurd (fresh_no _ j o is))
-heap_done s p t env (Objects (GetFieldID class field signature)) kept own all = unmoved (class_count s) p.heap all.slots
-heap_done s p t env (Objects (GetField primitive r field)) kept own all = unmoved (class_count s) p.heap all.slots
-heap_done s p t env (Objects (GetObjectField r field)) kept own all = unmoved (class_count s) p.heap all.slots
 heap_done s p t env (Objects (SetField primitive r field value)) kept own all =
     wrote_still (class_count s) p.heap _ _ (Number value) all.slots (λ o is. absurd (number_no value o is))
 heap_done s p t env (Objects (SetObjectField r field value)) kept own all =
@@ -141,37 +124,21 @@ heap_done s p t env (Strings (NewString units)) kept own all =
     made_still (class_count s) p.heap _ (omega arith) all.slots (λ j o within is. absurd (omega (arith, within)))
 heap_done s p t env (Strings (NewStringUTF bytes)) kept own all =
     made_still (class_count s) p.heap _ (omega arith) all.slots (λ j o within is. absurd (omega (arith, within)))
-heap_done s p t env (Strings (GetStringLength r)) kept own all = unmoved (class_count s) p.heap all.slots
-heap_done s p t env (Strings (GetStringUTFLength r)) kept own all = unmoved (class_count s) p.heap all.slots
-heap_done s p t env (Strings (GetStringRegion r start n)) kept own all = unmoved (class_count s) p.heap all.slots
 heap_done s p t env (Arrays (NewArray element n)) kept own all =
     made_still (class_count s) p.heap _ (array_below s element) all.slots (λ j o within is. absurd (number_no (pos 0) o is))
-heap_done s p t env (Arrays (GetArrayLength r)) kept own all = unmoved (class_count s) p.heap all.slots
-heap_done s p t env (Arrays (GetArrayRegion element r start n)) kept own all = unmoved (class_count s) p.heap all.slots
 heap_done s p t env (Arrays (SetArrayRegion element r start values)) kept own all =
     region_still (class_count s) (the_object p t r) values (natural start) p.heap all.slots
 heap_done s p t env (Arrays (NewObjectArray n class fill)) kept own all =
     made_still (class_count s) p.heap (Filled 3 (natural n) (pointer (object_named p t fill))) (omega arith) all.slots
     (λ j o within is. named_here s p t o.0 fill all (pointer_is (object_named p t fill) o is))
-heap_done s p t env (Arrays (GetObjectArrayElement r index)) kept own all = unmoved (class_count s) p.heap all.slots
 heap_done s p t env (Arrays (SetObjectArrayElement r index value)) kept own all =
     wrote_still (class_count s) p.heap _ _ (pointer (object_named p t value)) all.slots
     (λ o is. named_here s p t o.0 value all (pointer_is (object_named p t value) o is))
-heap_done s p t env (Monitors call) kept own all = unmoved (class_count s) p.heap all.slots
-heap_done s p t env (Buffers (GetArrayElements element r)) kept own all = unmoved (class_count s) p.heap all.slots
 heap_done s p t env (Buffers (ReleaseArrayElements element r b mode)) kept own all =
     back_still (writes_back mode) (class_count s) (buffers.contents p.buffers b.maker.0 b.n) (buffer_named p b) p.heap
     all.slots
-heap_done s p t env (Buffers (GetStringChars r)) kept own all = unmoved (class_count s) p.heap all.slots
-heap_done s p t env (Buffers (ReleaseStringChars r b)) kept own all = unmoved (class_count s) p.heap all.slots
-heap_done s p t env (Buffers (GetStringUTFChars r)) kept own all = unmoved (class_count s) p.heap all.slots
-heap_done s p t env (Buffers (ReleaseStringUTFChars r b)) kept own all = unmoved (class_count s) p.heap all.slots
-heap_done s p t env (Buffers (GetPrimitiveArrayCritical r)) kept own all = unmoved (class_count s) p.heap all.slots
-heap_done s p t env (Buffers (ReleasePrimitiveArrayCritical r b mode)) kept own all = unmoved (class_count s) p.heap all.slots
-heap_done s p t env (Buffers (GetStringCritical r)) kept own all = unmoved (class_count s) p.heap all.slots
-heap_done s p t env (Buffers (ReleaseStringCritical r b)) kept own all = unmoved (class_count s) p.heap all.slots
-heap_done s p t env (Buffers (BufferRead b index)) kept own all = unmoved (class_count s) p.heap all.slots
 heap_done s p t env (Buffers (BufferWrite b index value)) kept own all = pinned_still (class_count s) (natural index) value (buffer_named p b) p.heap all.slots
+heap_done s p t env call kept own all = unmoved (class_count s) p.heap all.slots
 
 -- ---- the other tables' events
 
@@ -187,31 +154,9 @@ delete_makes_none (To Weak maker n) = refl
 
 pub call_makes_none : (s : StatedSetup) (p : Parts) (t : ℕ) (call : Call) → make_none (call_locals s p t call) ≡ true
 call_makes_none s p t (Vm AttachCurrentThread) = start_makes_none (threads.attached (threads.acts_of t p.threads))
-call_makes_none s p t (Vm DetachCurrentThread) = refl
-call_makes_none s p t (Vm GetEnv) = refl
-call_makes_none s p t (Vm (NativeEnter class method signature)) = refl
-call_makes_none s p t (Vm (NativeLeave kept)) = refl
-call_makes_none s p t (Vm (LoadLibrary class library)) = refl
-call_makes_none s p t (Vm (RegisterNatives class method signature)) = refl
-call_makes_none s p t (Vm (UnregisterNatives class)) = refl
-call_makes_none s p t (Vm Collect) = refl
-call_makes_none s p t (Refs (NewLocalRef r)) = refl
-call_makes_none s p t (Refs (NewGlobalRef r)) = refl
-call_makes_none s p t (Refs (NewWeakGlobalRef r)) = refl
 call_makes_none s p t (Refs (DeleteLocalRef r)) = delete_makes_none r
-call_makes_none s p t (Refs (DeleteGlobalRef r)) = refl
-call_makes_none s p t (Refs (DeleteWeakGlobalRef r)) = refl
-call_makes_none s p t (Refs (IsSameObject r u)) = refl
-call_makes_none s p t (Refs (GetObjectRefType r)) = refl
 call_makes_none s p t (Frames (PushLocalFrame capacity)) = refl
-call_makes_none s p t (Frames (PopLocalFrame r)) = refl
-call_makes_none s p t (Frames (EnsureLocalCapacity capacity)) = refl
-call_makes_none s p t (Exceptions call) = refl
-call_makes_none s p t (Objects call) = refl
-call_makes_none s p t (Strings call) = refl
-call_makes_none s p t (Arrays call) = refl
-call_makes_none s p t (Monitors call) = refl
-call_makes_none s p t (Buffers call) = refl
+call_makes_none s p t call = refl
 
 -- an operand that must name an object names one
 pub the_named : (named : Named) (a b : Bool) → (is_nothing named || a) ≡ false → ((true && is_null named) || b) ≡ false
@@ -299,23 +244,8 @@ done_own s p t env call own kept all =
     }
 
 collects : (call : Call) → is_machine call ≡ true → call ≡ Vm Collect
-collects (Vm AttachCurrentThread) is = absurd cc
-collects (Vm DetachCurrentThread) is = absurd cc
-collects (Vm GetEnv) is = absurd cc
-collects (Vm (NativeEnter class method signature)) is = absurd cc
-collects (Vm (NativeLeave kept)) is = absurd cc
-collects (Vm (LoadLibrary class library)) is = absurd cc
-collects (Vm (RegisterNatives class method signature)) is = absurd cc
-collects (Vm (UnregisterNatives class)) is = absurd cc
 collects (Vm Collect) is = refl
-collects (Refs call) is = absurd cc
-collects (Frames call) is = absurd cc
-collects (Exceptions call) is = absurd cc
-collects (Objects call) is = absurd cc
-collects (Strings call) is = absurd cc
-collects (Arrays call) is = absurd cc
-collects (Monitors call) is = absurd cc
-collects (Buffers call) is = absurd cc
+collects call is = absurd cc
 
 done_by_kind : (b : Bool) (s : StatedSetup) (p : Parts) (t : ℕ) (env : Option EnvId) (call : Call) → is_machine call ≡ b → Unbroken s p t env call → AllHere s p
     → AllHere s (done_by s t call p)

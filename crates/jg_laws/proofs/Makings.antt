@@ -4,17 +4,17 @@ use Rattle.std.specs.Prelude.{◌==◌, if◌then◌else◌}
 use Rattle.std.specs.List.{AllByRecursion}
 use Rattle.std.proofs.lemmas.List.{length-map}
 use Rattle.jg_words.specs.declared.object.Primitive.{Primitive}
-use Rattle.jg_words.specs.declared.object.Primitive.TheVariants.{Boolean, Byte, Char, Short, Int, Long}
+use Rattle.jg_words.specs.declared.object.Primitive.TheVariants.{Boolean}
 use Rattle.jg_words.specs.declared.value.Value.TheVariants.{Throw as Threw}
 use Rattle.jg_words.specs.declared.value.Thrown.{Thrown}
-use Rattle.jg_words.specs.declared.value.Thrown.TheVariants.{ArrayIndexOutOfBounds, StringIndexOutOfBounds, NoClassDefFound, NoSuchField, NoSuchMethod}
+use Rattle.jg_words.specs.declared.value.Thrown.TheVariants.{ArrayIndexOutOfBounds}
 use Rattle.jg_words.specs.declared.call.Call.{Call}
-use Rattle.jg_words.specs.declared.call.Call.TheVariants.{Vm, Refs, Frames, Exceptions, Objects, Strings, Arrays, Monitors, Buffers}
-use Rattle.jg_words.specs.declared.call.vm.VmCall.TheVariants.{AttachCurrentThread, DetachCurrentThread, GetEnv, NativeEnter, NativeLeave, LoadLibrary, RegisterNatives, UnregisterNatives, Collect}
-use Rattle.jg_words.specs.declared.call.objects.ObjectsCall.TheVariants.{FindClass, GetObjectClass, IsInstanceOf, AllocObject, GetFieldID, GetField, GetObjectField, SetField, SetObjectField}
-use Rattle.jg_words.specs.declared.call.strings.StringsCall.TheVariants.{NewString, NewStringUTF, GetStringLength, GetStringUTFLength, GetStringRegion}
-use Rattle.jg_words.specs.declared.call.arrays.ArraysCall.TheVariants.{NewArray, GetArrayLength, GetArrayRegion, SetArrayRegion, NewObjectArray, GetObjectArrayElement, SetObjectArrayElement}
-use Rattle.jg_words.specs.declared.call.buffers.BuffersCall.TheVariants.{GetArrayElements, ReleaseArrayElements, GetStringChars, ReleaseStringChars, GetStringUTFChars, ReleaseStringUTFChars, GetPrimitiveArrayCritical, ReleasePrimitiveArrayCritical, GetStringCritical, ReleaseStringCritical, BufferRead, BufferWrite}
+use Rattle.jg_words.specs.declared.call.Call.TheVariants.{Vm, Objects, Strings, Arrays, Buffers}
+use Rattle.jg_words.specs.declared.call.vm.VmCall.TheVariants.{Collect}
+use Rattle.jg_words.specs.declared.call.objects.ObjectsCall.TheVariants.{AllocObject, SetField, SetObjectField}
+use Rattle.jg_words.specs.declared.call.strings.StringsCall.TheVariants.{NewString, NewStringUTF}
+use Rattle.jg_words.specs.declared.call.arrays.ArraysCall.TheVariants.{NewArray, SetArrayRegion, NewObjectArray, SetObjectArrayElement}
+use Rattle.jg_words.specs.declared.call.buffers.BuffersCall.TheVariants.{ReleaseArrayElements, BufferWrite}
 use Rattle.jg_table_buffers.specs.declared.info.Info.{Info}
 use Rattle.jg_table_buffers.specs.History as buffers
 use Rattle.jg_policy.specs.Stated.{StatedSetup, class_count}
@@ -36,11 +36,7 @@ all_append P (x ∷ xs) ys a b = (a.0, all_append P xs ys a.1 b)
 
 pub array_class-le : (element : Primitive) → array_class element ≤ 9
 array_class-le Boolean = omega arith
-array_class-le Byte = omega arith
-array_class-le Char = omega arith
-array_class-le Short = omega arith
-array_class-le Int = omega arith
-array_class-le Long = omega arith
+array_class-le call = omega arith
 
 region_stated : (s : StatedSetup) (o j : ℕ) (values : List ℤ) → AllByRecursion (MakesStated s) (region_writes o j values)
 region_stated s o j [] = tt
@@ -63,60 +59,24 @@ pin_stated s index v None = tt
 pin_stated s index v (Some info) = pin_if (buffers.is_critical info.family) s _ tt
 
 pub call_stated : (s : StatedSetup) (p : Parts) (t : ℕ) (call : Call) → AllByRecursion (MakesStated s) (call_heap s p t call)
-call_stated s p t (Vm AttachCurrentThread) = tt
-call_stated s p t (Vm DetachCurrentThread) = tt
-call_stated s p t (Vm GetEnv) = tt
-call_stated s p t (Vm (NativeEnter class method signature)) = tt
-call_stated s p t (Vm (NativeLeave kept)) = tt
-call_stated s p t (Vm (LoadLibrary class library)) = tt
-call_stated s p t (Vm (RegisterNatives class method signature)) = tt
-call_stated s p t (Vm (UnregisterNatives class)) = tt
 call_stated s p t (Vm Collect) = (tt, tt)
-call_stated s p t (Refs call) = tt
-call_stated s p t (Frames call) = tt
-call_stated s p t (Exceptions call) = tt
-call_stated s p t (Objects (FindClass name)) = tt
-call_stated s p t (Objects (GetObjectClass r)) = tt
-call_stated s p t (Objects (IsInstanceOf r class)) = tt
 call_stated s p t (Objects (AllocObject class)) = (length-map (fields_in (class_at s (the_object p t class))) first_value, tt)
-call_stated s p t (Objects (GetFieldID class field signature)) = tt
-call_stated s p t (Objects (GetField primitive r field)) = tt
-call_stated s p t (Objects (GetObjectField r field)) = tt
 call_stated s p t (Objects (SetField primitive r field value)) = (tt, tt)
 call_stated s p t (Objects (SetObjectField r field value)) = (tt, tt)
 call_stated s p t (Strings (NewString units)) = (tt, tt)
 call_stated s p t (Strings (NewStringUTF bytes)) = (tt, tt)
-call_stated s p t (Strings (GetStringLength r)) = tt
-call_stated s p t (Strings (GetStringUTFLength r)) = tt
-call_stated s p t (Strings (GetStringRegion r start n)) = tt
 call_stated s p t (Arrays (NewArray element n)) = (array_class-le element, tt)
-call_stated s p t (Arrays (GetArrayLength r)) = tt
-call_stated s p t (Arrays (GetArrayRegion element r start n)) = tt
 call_stated s p t (Arrays (SetArrayRegion element r start values)) = region_stated s (the_object p t r) (natural start) values
 call_stated s p t (Arrays (NewObjectArray n class fill)) = (omega arith, tt)
-call_stated s p t (Arrays (GetObjectArrayElement r index)) = tt
 call_stated s p t (Arrays (SetObjectArrayElement r index value)) = (tt, tt)
-call_stated s p t (Monitors call) = tt
-call_stated s p t (Buffers (GetArrayElements element r)) = tt
 call_stated s p t (Buffers (ReleaseArrayElements element r b mode)) =
     back_stated s (buffers.contents p.buffers b.maker.0 b.n) (buffer_named p b) (writes_back mode)
-call_stated s p t (Buffers (GetStringChars r)) = tt
-call_stated s p t (Buffers (ReleaseStringChars r b)) = tt
-call_stated s p t (Buffers (GetStringUTFChars r)) = tt
-call_stated s p t (Buffers (ReleaseStringUTFChars r b)) = tt
-call_stated s p t (Buffers (GetPrimitiveArrayCritical r)) = tt
-call_stated s p t (Buffers (ReleasePrimitiveArrayCritical r b mode)) = tt
-call_stated s p t (Buffers (GetStringCritical r)) = tt
-call_stated s p t (Buffers (ReleaseStringCritical r b)) = tt
-call_stated s p t (Buffers (BufferRead b index)) = tt
 call_stated s p t (Buffers (BufferWrite b index value)) = pin_stated s (natural index) value (buffer_named p b)
+call_stated s p t call = tt
 
 pub thrown_stated : (s : StatedSetup) (kind : Thrown) → AllByRecursion (MakesStated s) (value_heap (Threw kind))
 thrown_stated s ArrayIndexOutOfBounds = (refl, tt)
-thrown_stated s StringIndexOutOfBounds = (refl, tt)
-thrown_stated s NoClassDefFound = (refl, tt)
-thrown_stated s NoSuchField = (refl, tt)
-thrown_stated s NoSuchMethod = (refl, tt)
+thrown_stated s call = (refl, tt)
 
 stated_if : (b : Bool) (s : StatedSetup) (m n : Making) → IsStatedMaking s m → IsStatedMaking s n → IsStatedMaking s (if b then m else n)
 stated_if true s m n a b = a

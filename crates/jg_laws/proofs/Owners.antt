@@ -8,8 +8,8 @@ use Rattle.jg_words.specs.declared.thread.EnvId.{EnvId}
 use Rattle.jg_words.specs.declared.rule.Rule.{Rule}
 use Rattle.jg_words.specs.Entry.{Entry}
 use Rattle.jg_words.specs.declared.call.Call.{Call}
-use Rattle.jg_words.specs.declared.call.Call.TheVariants.{Vm, Refs, Frames, Exceptions, Objects, Strings, Arrays, Monitors, Buffers}
-use Rattle.jg_words.specs.declared.call.vm.VmCall.TheVariants.{AttachCurrentThread, DetachCurrentThread, GetEnv, NativeEnter, NativeLeave, LoadLibrary, RegisterNatives, UnregisterNatives, Collect}
+use Rattle.jg_words.specs.declared.call.Call.TheVariants.{Vm, Monitors}
+use Rattle.jg_words.specs.declared.call.vm.VmCall.TheVariants.{DetachCurrentThread}
 use Rattle.jg_words.specs.declared.call.monitors.MonitorsCall.TheVariants.{MonitorEnter, MonitorExit}
 use Rattle.jg_policy.specs.Stated.{StatedSetup}
 use Rattle.jg_table_monitors.specs.declared.entering.Entering.{Entering}
@@ -74,27 +74,13 @@ mine p t (Object x) a b alive there owned = mine_by p.monitors t x.0 (owner p.mo
 done_allowed : (s : StatedSetup) (p : Parts) (t : Tid) (env : Option EnvId) (call : Call) → Unbroken s p t.0 env call
     → is_effective (answer s p t call).reply.value ≡ true → AllAllowed p.monitors
     → AllAllowed (map (by t.0) (call_monitors s p t.0 call) ++ p.monitors)
-done_allowed s p t env (Vm AttachCurrentThread) kept done old = old
 done_allowed s p t env (Vm DetachCurrentThread) kept done old = (old, tt)
-done_allowed s p t env (Vm GetEnv) kept done old = old
-done_allowed s p t env (Vm (NativeEnter class method signature)) kept done old = old
-done_allowed s p t env (Vm (NativeLeave kept_ref)) kept done old = old
-done_allowed s p t env (Vm (LoadLibrary class library)) kept done old = old
-done_allowed s p t env (Vm (RegisterNatives class method signature)) kept done old = old
-done_allowed s p t env (Vm (UnregisterNatives class)) kept done old = old
-done_allowed s p t env (Vm Collect) kept done old = old
-done_allowed s p t env (Refs call) kept done old = old
-done_allowed s p t env (Frames call) kept done old = old
-done_allowed s p t env (Exceptions call) kept done old = old
-done_allowed s p t env (Objects call) kept done old = old
-done_allowed s p t env (Strings call) kept done old = old
-done_allowed s p t env (Arrays call) kept done old = old
-done_allowed s p t env (Buffers call) kept done old = old
 done_allowed s p t env (Monitors (MonitorEnter r)) kept done old =
     let o : ℕ = the_object p t.0 r in
     (old, alone p.monitors t.0 o (owner p.monitors o) refl old (entered_is (entering t.0 (owner p.monitors o)) done))
 done_allowed s p t env (Monitors (MonitorExit r)) kept done old =
     (old, mine p t.0 (names p t.0 r) false false kept.alive kept.not_null kept.owned)
+done_allowed s p t env call kept done old = old
 
 allowed_if : (b : Bool) (s : StatedSetup) (p : Parts) (t : Tid) (env : Option EnvId) (call : Call)
     → is_effective (answer s p t call).reply.value ≡ b → Unbroken s p t.0 env call → AllAllowed p.monitors

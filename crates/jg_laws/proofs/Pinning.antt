@@ -19,8 +19,8 @@ use Rattle.jg_words.specs.declared.rule.Rule.{Rule}
 use Rattle.jg_words.specs.Entry.{Entry}
 use Rattle.jg_words.specs.declared.call.Call.{Call}
 use Rattle.jg_words.specs.declared.call.Call.TheVariants.{Vm, Refs, Frames, Exceptions, Objects, Strings, Arrays, Monitors, Buffers}
-use Rattle.jg_words.specs.declared.call.vm.VmCall.TheVariants.{AttachCurrentThread, DetachCurrentThread, GetEnv, NativeEnter, NativeLeave, LoadLibrary, RegisterNatives, UnregisterNatives, Collect}
-use Rattle.jg_words.specs.declared.call.refs.RefsCall.TheVariants.{NewLocalRef, NewGlobalRef, NewWeakGlobalRef, DeleteLocalRef, DeleteGlobalRef, DeleteWeakGlobalRef, IsSameObject, GetObjectRefType}
+use Rattle.jg_words.specs.declared.call.vm.VmCall.TheVariants.{Collect}
+use Rattle.jg_words.specs.declared.call.refs.RefsCall.TheVariants.{DeleteGlobalRef, DeleteWeakGlobalRef}
 use Rattle.jg_words.specs.declared.call.buffers.BuffersCall.{BuffersCall}
 use Rattle.jg_words.specs.declared.call.buffers.BuffersCall.TheVariants.{GetArrayElements, ReleaseArrayElements, GetStringChars, ReleaseStringChars, GetStringUTFChars, ReleaseStringUTFChars, GetPrimitiveArrayCritical, ReleasePrimitiveArrayCritical, GetStringCritical, ReleaseStringCritical, BufferRead, BufferWrite}
 use Rattle.jg_words.proofs.Common.{clash, or_fourth, or_middle}
@@ -245,30 +245,10 @@ clears_leave Weak k i o (x ∷ objects) none =
 -- a pinned reference: where it is global or weak, its number was handed out
 call_leaves : (kind : Kind) (s : StatedSetup) (p : Parts) (t : ℕ) (env : Option EnvId) (call : Call) (maker : Tid) (i o : ℕ) → Unbroken s p t env call
     → buffers.pinned_by p.buffers (To kind maker i) ≡ true → list_any (λ x. x == o) (going s p) ≡ false → Leave kind maker.0 i o (call_globals s p t call)
-call_leaves kind s p t env (Vm AttachCurrentThread) maker i o kept pins stays = tt
-call_leaves kind s p t env (Vm DetachCurrentThread) maker i o kept pins stays = tt
-call_leaves kind s p t env (Vm GetEnv) maker i o kept pins stays = tt
-call_leaves kind s p t env (Vm (NativeEnter class method signature)) maker i o kept pins stays = tt
-call_leaves kind s p t env (Vm (NativeLeave kept_ref)) maker i o kept pins stays = tt
-call_leaves kind s p t env (Vm (LoadLibrary class library)) maker i o kept pins stays = tt
-call_leaves kind s p t env (Vm (RegisterNatives class method signature)) maker i o kept pins stays = tt
-call_leaves kind s p t env (Vm (UnregisterNatives class)) maker i o kept pins stays = tt
 call_leaves kind s p t env (Vm Collect) maker i o kept pins stays = clears_leave kind maker.0 i o (going s p) stays
-call_leaves kind s p t env (Refs (NewLocalRef r)) maker i o kept pins stays = tt
-call_leaves kind s p t env (Refs (NewGlobalRef r)) maker i o kept pins stays = tt
-call_leaves kind s p t env (Refs (NewWeakGlobalRef r)) maker i o kept pins stays = tt
-call_leaves kind s p t env (Refs (DeleteLocalRef r)) maker i o kept pins stays = tt
 call_leaves kind s p t env (Refs (DeleteGlobalRef r)) maker i o kept pins stays = deletion_leaves p.buffers kind maker i o r pins kept.not_pinned
 call_leaves kind s p t env (Refs (DeleteWeakGlobalRef r)) maker i o kept pins stays = deletion_leaves p.buffers kind maker i o r pins kept.not_pinned
-call_leaves kind s p t env (Refs (IsSameObject r u)) maker i o kept pins stays = tt
-call_leaves kind s p t env (Refs (GetObjectRefType r)) maker i o kept pins stays = tt
-call_leaves kind s p t env (Frames call) maker i o kept pins stays = tt
-call_leaves kind s p t env (Exceptions call) maker i o kept pins stays = tt
-call_leaves kind s p t env (Objects call) maker i o kept pins stays = tt
-call_leaves kind s p t env (Strings call) maker i o kept pins stays = tt
-call_leaves kind s p t env (Arrays call) maker i o kept pins stays = tt
-call_leaves kind s p t env (Monitors call) maker i o kept pins stays = tt
-call_leaves kind s p t env (Buffers call) maker i o kept pins stays = tt
+call_leaves kind s p t env call maker i o kept pins stays = tt
 
 leave_if : (b : Bool) (kind : Kind) (k i o : ℕ) (e : List globals.Event) → Leave kind k i o e → Leave kind k i o (if_effective b e)
 leave_if true kind k i o e leave = leave

@@ -8,17 +8,17 @@ use Rattle.jg_words.specs.declared.reference.Kind.TheVariants.{Local, Global, We
 use Rattle.jg_words.specs.declared.value.Thrown.{Thrown}
 use Rattle.jg_words.specs.declared.call.Call.{Call}
 use Rattle.jg_words.specs.declared.call.Call.TheVariants.{Vm, Refs, Frames, Exceptions, Objects, Strings, Arrays, Monitors, Buffers}
-use Rattle.jg_words.specs.declared.call.vm.VmCall.TheVariants.{AttachCurrentThread, DetachCurrentThread, GetEnv, NativeEnter, NativeLeave, LoadLibrary, RegisterNatives, UnregisterNatives, Collect}
-use Rattle.jg_words.specs.declared.call.refs.RefsCall.TheVariants.{NewLocalRef, NewGlobalRef, NewWeakGlobalRef, DeleteLocalRef, DeleteGlobalRef, DeleteWeakGlobalRef, IsSameObject, GetObjectRefType}
-use Rattle.jg_words.specs.declared.call.frames.FramesCall.TheVariants.{PushLocalFrame, PopLocalFrame, EnsureLocalCapacity}
-use Rattle.jg_words.specs.declared.call.exceptions.ExceptionsCall.TheVariants.{Throw, ExceptionOccurred, ExceptionDescribe, ExceptionClear, ExceptionCheck}
-use Rattle.jg_words.specs.declared.call.objects.ObjectsCall.TheVariants.{FindClass, GetObjectClass, IsInstanceOf, AllocObject, GetFieldID, GetField, GetObjectField, SetField, SetObjectField}
-use Rattle.jg_words.specs.declared.call.strings.StringsCall.TheVariants.{NewString, NewStringUTF, GetStringLength, GetStringUTFLength, GetStringRegion}
-use Rattle.jg_words.specs.declared.call.arrays.ArraysCall.TheVariants.{NewArray, GetArrayLength, GetArrayRegion, SetArrayRegion, NewObjectArray, GetObjectArrayElement, SetObjectArrayElement}
-use Rattle.jg_words.specs.declared.call.monitors.MonitorsCall.TheVariants.{MonitorEnter, MonitorExit}
+use Rattle.jg_words.specs.declared.call.vm.VmCall.TheVariants.{GetEnv, NativeEnter, NativeLeave, RegisterNatives}
+use Rattle.jg_words.specs.declared.call.refs.RefsCall.TheVariants.{NewLocalRef, NewGlobalRef, NewWeakGlobalRef}
+use Rattle.jg_words.specs.declared.call.frames.FramesCall.TheVariants.{PopLocalFrame}
+use Rattle.jg_words.specs.declared.call.exceptions.ExceptionsCall.TheVariants.{Throw, ExceptionOccurred}
+use Rattle.jg_words.specs.declared.call.objects.ObjectsCall.TheVariants.{FindClass, GetObjectClass, AllocObject, GetFieldID, GetObjectField}
+use Rattle.jg_words.specs.declared.call.strings.StringsCall.TheVariants.{NewString, NewStringUTF, GetStringRegion}
+use Rattle.jg_words.specs.declared.call.arrays.ArraysCall.TheVariants.{NewArray, GetArrayRegion, SetArrayRegion, NewObjectArray, GetObjectArrayElement, SetObjectArrayElement}
+use Rattle.jg_words.specs.declared.call.monitors.MonitorsCall.TheVariants.{MonitorEnter}
 use Rattle.jg_words.specs.Call.{fun_of}
 use Rattle.jg_words.specs.Fun.{needs_env}
-use Rattle.jg_words.specs.declared.call.buffers.BuffersCall.TheVariants.{GetArrayElements, ReleaseArrayElements, GetStringChars, ReleaseStringChars, GetStringUTFChars, ReleaseStringUTFChars, GetPrimitiveArrayCritical, ReleasePrimitiveArrayCritical, GetStringCritical, ReleaseStringCritical, BufferRead, BufferWrite}
+use Rattle.jg_words.specs.declared.call.buffers.BuffersCall.TheVariants.{GetArrayElements, GetStringChars, GetStringUTFChars, GetPrimitiveArrayCritical, GetStringCritical}
 use Rattle.jg_policy.specs.Stated.{StatedSetup}
 use Rattle.jg_rules.specs.declared.answer.Answer.{Answer}
 use Rattle.jg_rules.specs.Parts.{Parts}
@@ -96,54 +96,32 @@ raised_proper s p t call None env = tt
 raised_proper s p t call (Some o) env = env
 
 pub proper : (s : StatedSetup) (p : Parts) (t : Tid) (call : Call) → ProperAnswer s p t call (answer s p t call)
-proper s p t (Vm AttachCurrentThread) = tt
-proper s p t (Vm DetachCurrentThread) = tt
 proper s p t (Vm GetEnv) = env_proper s p t (Vm GetEnv) (session p t.0)
 proper s p t (Vm (NativeEnter class method signature)) =
     entered_proper s p t (Vm (NativeEnter class method signature)) Link (class_named s class) (class_named s class) refl
 proper s p t (Vm (NativeLeave kept)) = left_proper s p t (Vm (NativeLeave kept)) (pending p t.0) (object_named p t.0 kept) refl
-proper s p t (Vm (LoadLibrary class library)) = tt
 proper s p t (Vm (RegisterNatives class method signature)) =
     registered_proper s p t (Vm (RegisterNatives class method signature)) (class_meant s p t.0 class)
     (native_meant s (class_meant s p t.0 class) method signature) refl
-proper s p t (Vm (UnregisterNatives class)) = tt
-proper s p t (Vm Collect) = tt
 proper s p t (Refs (NewLocalRef r)) = local_proper s p t (Refs (NewLocalRef r)) (object_named p t.0 r) refl
 proper s p t (Refs (NewGlobalRef r)) = global_proper s p t (Refs (NewGlobalRef r)) (object_named p t.0 r) refl refl
 proper s p t (Refs (NewWeakGlobalRef r)) = weak_proper s p t (Refs (NewWeakGlobalRef r)) (object_named p t.0 r) refl refl
-proper s p t (Refs (DeleteLocalRef r)) = tt
-proper s p t (Refs (DeleteGlobalRef r)) = tt
-proper s p t (Refs (DeleteWeakGlobalRef r)) = tt
-proper s p t (Refs (IsSameObject r u)) = tt
-proper s p t (Refs (GetObjectRefType r)) = tt
-proper s p t (Frames (PushLocalFrame capacity)) = tt
 proper s p t (Frames (PopLocalFrame r)) = local_proper s p t (Frames (PopLocalFrame r)) (object_named p t.0 r) refl
-proper s p t (Frames (EnsureLocalCapacity capacity)) = tt
 proper s p t (Exceptions (Throw r)) = raised_proper s p t (Exceptions (Throw r)) (object_named p t.0 r) refl
 proper s p t (Exceptions ExceptionOccurred) = local_proper s p t (Exceptions ExceptionOccurred) (pending p t.0) refl
-proper s p t (Exceptions ExceptionDescribe) = tt
-proper s p t (Exceptions ExceptionClear) = tt
-proper s p t (Exceptions ExceptionCheck) = tt
 proper s p t (Objects (FindClass name)) = found_proper s p t (Objects (FindClass name)) (class_named s name) refl
 proper s p t (Objects (GetObjectClass r)) = local_proper s p t (Objects (GetObjectClass r)) (Some (class_of s p (the_object p t.0 r))) refl
-proper s p t (Objects (IsInstanceOf r class)) = tt
 proper s p t (Objects (AllocObject class)) = local_proper s p t (Objects (AllocObject class)) (Some (object_count s p)) refl
 proper s p t (Objects (GetFieldID class field signature)) =
     field_proper s p t (Objects (GetFieldID class field signature)) (field_meant s (class_meant s p t.0 class) field signature) refl
-proper s p t (Objects (GetField primitive r field)) = tt
 proper s p t (Objects (GetObjectField r field)) =
     local_proper s p t (Objects (GetObjectField r field)) (target_in (field_value s p (the_object p t.0 r) field)) refl
-proper s p t (Objects (SetField primitive r field value)) = tt
-proper s p t (Objects (SetObjectField r field value)) = tt
 proper s p t (Strings (NewString units)) = local_proper s p t (Strings (NewString units)) (Some (object_count s p)) refl
 proper s p t (Strings (NewStringUTF bytes)) = local_proper s p t (Strings (NewStringUTF bytes)) (Some (object_count s p)) refl
-proper s p t (Strings (GetStringLength r)) = tt
-proper s p t (Strings (GetStringUTFLength r)) = tt
 proper s p t (Strings (GetStringRegion r start n)) =
     outside_proper s p t (Strings (GetStringRegion r start n)) StringIndexOutOfBounds (is_outside start n (length (units_of s p (the_object p t.0 r)))) _ refl
     tt
 proper s p t (Arrays (NewArray element n)) = local_proper s p t (Arrays (NewArray element n)) (Some (object_count s p)) refl
-proper s p t (Arrays (GetArrayLength r)) = tt
 proper s p t (Arrays (GetArrayRegion element r start n)) =
     outside_proper s p t (Arrays (GetArrayRegion element r start n)) ArrayIndexOutOfBounds (is_outside start n (length_of s p (the_object p t.0 r))) _ refl tt
 proper s p t (Arrays (SetArrayRegion element r start values)) =
@@ -158,16 +136,9 @@ proper s p t (Arrays (SetObjectArrayElement r index value)) =
     refl tt
 proper s p t (Monitors (MonitorEnter r)) =
     enter_proper s p t (Monitors (MonitorEnter r)) (monitors.entering t.0 (monitors.owner p.monitors (the_object p t.0 r))) refl
-proper s p t (Monitors (MonitorExit r)) = tt
 proper s p t (Buffers (GetArrayElements element r)) = (refl, refl, refl, refl)
-proper s p t (Buffers (ReleaseArrayElements element r b mode)) = tt
 proper s p t (Buffers (GetStringChars r)) = (refl, refl, refl, refl)
-proper s p t (Buffers (ReleaseStringChars r b)) = tt
 proper s p t (Buffers (GetStringUTFChars r)) = (refl, refl, refl, refl)
-proper s p t (Buffers (ReleaseStringUTFChars r b)) = tt
 proper s p t (Buffers (GetPrimitiveArrayCritical r)) = (refl, refl, refl, refl)
-proper s p t (Buffers (ReleasePrimitiveArrayCritical r b mode)) = tt
 proper s p t (Buffers (GetStringCritical r)) = (refl, refl, refl, refl)
-proper s p t (Buffers (ReleaseStringCritical r b)) = tt
-proper s p t (Buffers (BufferRead b index)) = tt
-proper s p t (Buffers (BufferWrite b index value)) = tt
+proper s p t call = tt

@@ -12,12 +12,12 @@ use Rattle.jg_words.specs.declared.entry.Outcome.{Outcome}
 use Rattle.jg_words.specs.declared.entry.Outcome.TheVariants.{Passed, Denied}
 use Rattle.jg_words.specs.Entry.{Entry}
 use Rattle.jg_words.specs.declared.call.Call.{Call}
-use Rattle.jg_words.specs.declared.call.Call.TheVariants.{Vm, Refs, Frames, Exceptions, Objects, Strings, Arrays, Monitors, Buffers}
-use Rattle.jg_words.specs.declared.call.vm.VmCall.TheVariants.{AttachCurrentThread, DetachCurrentThread, GetEnv, NativeEnter, NativeLeave, LoadLibrary, RegisterNatives, UnregisterNatives, Collect}
-use Rattle.jg_words.specs.declared.call.refs.RefsCall.TheVariants.{NewLocalRef, NewGlobalRef, NewWeakGlobalRef, DeleteLocalRef, DeleteGlobalRef, DeleteWeakGlobalRef, IsSameObject, GetObjectRefType}
-use Rattle.jg_words.specs.declared.call.frames.FramesCall.TheVariants.{PushLocalFrame, PopLocalFrame, EnsureLocalCapacity}
-use Rattle.jg_words.specs.declared.call.monitors.MonitorsCall.TheVariants.{MonitorEnter, MonitorExit}
-use Rattle.jg_words.specs.declared.call.exceptions.ExceptionsCall.TheVariants.{Throw, ExceptionOccurred, ExceptionDescribe, ExceptionClear, ExceptionCheck}
+use Rattle.jg_words.specs.declared.call.Call.TheVariants.{Vm, Refs, Frames, Exceptions, Monitors}
+use Rattle.jg_words.specs.declared.call.vm.VmCall.TheVariants.{AttachCurrentThread}
+use Rattle.jg_words.specs.declared.call.refs.RefsCall.TheVariants.{DeleteLocalRef}
+use Rattle.jg_words.specs.declared.call.frames.FramesCall.TheVariants.{PushLocalFrame}
+use Rattle.jg_words.specs.declared.call.monitors.MonitorsCall.TheVariants.{MonitorEnter}
+use Rattle.jg_words.specs.declared.call.exceptions.ExceptionsCall.TheVariants.{Throw}
 use Rattle.jg_table_threads.specs.History as threads
 use Rattle.jg_table_locals.specs.History as locals
 use Rattle.jg_table_locals.specs.History.{Act, acts_of, is_push, done_at, frames}
@@ -33,26 +33,8 @@ effective-le true events n few = few
 
 pub call_threads-le : (s : StatedSetup) (p : Parts) (t : ℕ) (call : Call) → length (call_threads s p t call) ≤ 1
 call_threads-le s p t (Vm AttachCurrentThread) = omega arith
-call_threads-le s p t (Vm DetachCurrentThread) = omega arith
-call_threads-le s p t (Vm GetEnv) = omega arith
-call_threads-le s p t (Vm (NativeEnter class method signature)) = omega arith
-call_threads-le s p t (Vm (NativeLeave kept)) = omega arith
-call_threads-le s p t (Vm (LoadLibrary class library)) = omega arith
-call_threads-le s p t (Vm (RegisterNatives class method signature)) = omega arith
-call_threads-le s p t (Vm (UnregisterNatives class)) = omega arith
-call_threads-le s p t (Vm Collect) = omega arith
-call_threads-le s p t (Refs call) = omega arith
-call_threads-le s p t (Frames call) = omega arith
 call_threads-le s p t (Exceptions (Throw r)) = omega arith
-call_threads-le s p t (Exceptions ExceptionOccurred) = omega arith
-call_threads-le s p t (Exceptions ExceptionDescribe) = omega arith
-call_threads-le s p t (Exceptions ExceptionClear) = omega arith
-call_threads-le s p t (Exceptions ExceptionCheck) = omega arith
-call_threads-le s p t (Objects call) = omega arith
-call_threads-le s p t (Strings call) = omega arith
-call_threads-le s p t (Arrays call) = omega arith
-call_threads-le s p t (Monitors call) = omega arith
-call_threads-le s p t (Buffers call) = omega arith
+call_threads-le s p t call = omega arith
 
 value_threads-le : (value : Value) (o : Option ObjId) → length (value_threads value o) ≤ 1
 value_threads-le (Reference r) o = omega arith
@@ -73,31 +55,9 @@ deletes_local-le (To Weak maker n) = omega arith
 
 call_locals-le : (s : StatedSetup) (p : Parts) (t : ℕ) (call : Call) → length (call_locals s p t call) ≤ 1
 call_locals-le s p t (Vm AttachCurrentThread) = started-le (threads.attached (threads.acts_of t p.threads))
-call_locals-le s p t (Vm DetachCurrentThread) = omega arith
-call_locals-le s p t (Vm GetEnv) = omega arith
-call_locals-le s p t (Vm (NativeEnter class method signature)) = omega arith
-call_locals-le s p t (Vm (NativeLeave kept)) = omega arith
-call_locals-le s p t (Vm (LoadLibrary class library)) = omega arith
-call_locals-le s p t (Vm (RegisterNatives class method signature)) = omega arith
-call_locals-le s p t (Vm (UnregisterNatives class)) = omega arith
-call_locals-le s p t (Vm Collect) = omega arith
-call_locals-le s p t (Refs (NewLocalRef r)) = omega arith
-call_locals-le s p t (Refs (NewGlobalRef r)) = omega arith
-call_locals-le s p t (Refs (NewWeakGlobalRef r)) = omega arith
 call_locals-le s p t (Refs (DeleteLocalRef r)) = deletes_local-le r
-call_locals-le s p t (Refs (DeleteGlobalRef r)) = omega arith
-call_locals-le s p t (Refs (DeleteWeakGlobalRef r)) = omega arith
-call_locals-le s p t (Refs (IsSameObject r u)) = omega arith
-call_locals-le s p t (Refs (GetObjectRefType r)) = omega arith
 call_locals-le s p t (Frames (PushLocalFrame capacity)) = omega arith
-call_locals-le s p t (Frames (PopLocalFrame r)) = omega arith
-call_locals-le s p t (Frames (EnsureLocalCapacity capacity)) = omega arith
-call_locals-le s p t (Exceptions call) = omega arith
-call_locals-le s p t (Objects call) = omega arith
-call_locals-le s p t (Strings call) = omega arith
-call_locals-le s p t (Arrays call) = omega arith
-call_locals-le s p t (Monitors call) = omega arith
-call_locals-le s p t (Buffers call) = omega arith
+call_locals-le s p t call = omega arith
 
 value_locals-le : (value : Value) (o : Option ObjId) → length (value_locals value o) ≤ 1
 value_locals-le (Reference (To Local maker n)) (Some o) = omega arith
@@ -105,23 +65,8 @@ value_locals-le _ _ = omega arith
 
 call_monitors-le : (s : StatedSetup) (p : Parts) (t : ℕ) (call : Call) → length (call_monitors s p t call) ≤ 1
 call_monitors-le s p t (Vm AttachCurrentThread) = omega arith
-call_monitors-le s p t (Vm DetachCurrentThread) = omega arith
-call_monitors-le s p t (Vm GetEnv) = omega arith
-call_monitors-le s p t (Vm (NativeEnter class method signature)) = omega arith
-call_monitors-le s p t (Vm (NativeLeave kept)) = omega arith
-call_monitors-le s p t (Vm (LoadLibrary class library)) = omega arith
-call_monitors-le s p t (Vm (RegisterNatives class method signature)) = omega arith
-call_monitors-le s p t (Vm (UnregisterNatives class)) = omega arith
-call_monitors-le s p t (Vm Collect) = omega arith
-call_monitors-le s p t (Refs call) = omega arith
-call_monitors-le s p t (Frames call) = omega arith
-call_monitors-le s p t (Exceptions call) = omega arith
-call_monitors-le s p t (Objects call) = omega arith
-call_monitors-le s p t (Strings call) = omega arith
-call_monitors-le s p t (Arrays call) = omega arith
 call_monitors-le s p t (Monitors (MonitorEnter r)) = omega arith
-call_monitors-le s p t (Monitors (MonitorExit r)) = omega arith
-call_monitors-le s p t (Buffers call) = omega arith
+call_monitors-le s p t call = omega arith
 
 -- two short lists in front of a third
 in_front : {X Y : Type 0} (f : X → Y) (xs ys : List X) (zs : List Y) → length xs ≤ 1 → length ys ≤ 1 → length (map f xs ++ (map f ys ++ zs)) ≤ length zs + 2

@@ -149,30 +149,10 @@ clears_none [] = refl
 clears_none (o ∷ objects) = clears_none objects
 
 pub makes_none : (s : StatedSetup) (p : Parts) (t : ℕ) (call : Call) → make_no_global (call_globals s p t call) ≡ true
-makes_none s p t (Vm AttachCurrentThread) = refl
-makes_none s p t (Vm DetachCurrentThread) = refl
-makes_none s p t (Vm GetEnv) = refl
-makes_none s p t (Vm (NativeEnter class method signature)) = refl
-makes_none s p t (Vm (NativeLeave kept)) = refl
-makes_none s p t (Vm (LoadLibrary class library)) = refl
-makes_none s p t (Vm (RegisterNatives class method signature)) = refl
-makes_none s p t (Vm (UnregisterNatives class)) = refl
 makes_none s p t (Vm Collect) = clears_none (going s p)
-makes_none s p t (Refs (NewLocalRef r)) = refl
-makes_none s p t (Refs (NewGlobalRef r)) = refl
-makes_none s p t (Refs (NewWeakGlobalRef r)) = refl
-makes_none s p t (Refs (DeleteLocalRef r)) = refl
 makes_none s p t (Refs (DeleteGlobalRef r)) = deletes_none r
 makes_none s p t (Refs (DeleteWeakGlobalRef r)) = deletes_none r
-makes_none s p t (Refs (IsSameObject r u)) = refl
-makes_none s p t (Refs (GetObjectRefType r)) = refl
-makes_none s p t (Frames call) = refl
-makes_none s p t (Exceptions call) = refl
-makes_none s p t (Objects call) = refl
-makes_none s p t (Strings call) = refl
-makes_none s p t (Arrays call) = refl
-makes_none s p t (Monitors call) = refl
-makes_none s p t (Buffers call) = refl
+makes_none s p t call = refl
 
 others : (P : Parts → Type 0) (s : StatedSetup) → Steps s P → (t : ℕ) (call : Call) (p q : Parts) → opens_one (call_buffers s p t call) ≡ false → P q
     → P (elsewhere s t call p q)

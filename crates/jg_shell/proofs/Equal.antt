@@ -17,7 +17,7 @@ use Rattle.jg_words.specs.declared.value.Value.{Value}
 use Rattle.jg_words.specs.contracts.value.ValuePartialEq.TheImpl.{ghosts as value_tests}
 use Rattle.jg_words.specs.declared.call.vm.VmCall.{VmCall}
 use Rattle.jg_words.specs.contracts.call.vm.VmCallPartialEq.TheImpl.{ghosts as vm}
-use Rattle.jg_words.specs.declared.call.vm.VmCall.TheVariants.{AttachCurrentThread, DetachCurrentThread, GetEnv, NativeEnter, NativeLeave, LoadLibrary, RegisterNatives, UnregisterNatives, Collect}
+use Rattle.jg_words.specs.declared.call.vm.VmCall.TheVariants.{NativeEnter, NativeLeave, LoadLibrary, RegisterNatives, UnregisterNatives}
 use Rattle.jg_words.specs.declared.call.refs.RefsCall.{RefsCall}
 use Rattle.jg_words.specs.contracts.call.refs.RefsCallPartialEq.TheImpl.{ghosts as refs}
 use Rattle.jg_words.specs.declared.call.refs.RefsCall.TheVariants.{NewLocalRef, NewGlobalRef, NewWeakGlobalRef, DeleteLocalRef, DeleteGlobalRef, DeleteWeakGlobalRef, IsSameObject, GetObjectRefType}
@@ -73,38 +73,23 @@ buffer_same : (x y : BufId) → Decides (buffer_tests.eq x y) (x ≡ y)
 buffer_same x y = grind arith
 
 vm_same : (x y : VmCall) → Decides (vm.eq x y) (x ≡ y)
-vm_same AttachCurrentThread y = grind arith
-vm_same DetachCurrentThread y = grind arith
-vm_same GetEnv y = grind arith
 vm_same (NativeEnter a b c) (NativeEnter p q r) = grind (arith, name_same a p, name_same b q, name_same c r)
-vm_same (NativeEnter a b c) y = grind arith
 vm_same (NativeLeave a) (NativeLeave p) = grind (arith, ref_same a p)
-vm_same (NativeLeave a) y = grind arith
 vm_same (LoadLibrary a b) (LoadLibrary p q) = grind (arith, name_same a p, name_same b q)
-vm_same (LoadLibrary a b) y = grind arith
 vm_same (RegisterNatives a b c) (RegisterNatives p q r) = grind (arith, ref_same a p, name_same b q, name_same c r)
-vm_same (RegisterNatives a b c) y = grind arith
 vm_same (UnregisterNatives a) (UnregisterNatives p) = grind (arith, ref_same a p)
-vm_same (UnregisterNatives a) y = grind arith
-vm_same Collect y = grind arith
+vm_same x y = grind arith
 
 refs_same : (x y : RefsCall) → Decides (refs.eq x y) (x ≡ y)
 refs_same (NewLocalRef a) (NewLocalRef p) = grind (arith, ref_same a p)
-refs_same (NewLocalRef a) y = grind arith
 refs_same (NewGlobalRef a) (NewGlobalRef p) = grind (arith, ref_same a p)
-refs_same (NewGlobalRef a) y = grind arith
 refs_same (NewWeakGlobalRef a) (NewWeakGlobalRef p) = grind (arith, ref_same a p)
-refs_same (NewWeakGlobalRef a) y = grind arith
 refs_same (DeleteLocalRef a) (DeleteLocalRef p) = grind (arith, ref_same a p)
-refs_same (DeleteLocalRef a) y = grind arith
 refs_same (DeleteGlobalRef a) (DeleteGlobalRef p) = grind (arith, ref_same a p)
-refs_same (DeleteGlobalRef a) y = grind arith
 refs_same (DeleteWeakGlobalRef a) (DeleteWeakGlobalRef p) = grind (arith, ref_same a p)
-refs_same (DeleteWeakGlobalRef a) y = grind arith
 refs_same (IsSameObject a b) (IsSameObject p q) = grind (arith, ref_same a p, ref_same b q)
-refs_same (IsSameObject a b) y = grind arith
 refs_same (GetObjectRefType a) (GetObjectRefType p) = grind (arith, ref_same a p)
-refs_same (GetObjectRefType a) y = grind arith
+refs_same x y = grind arith
 
 frames_same : (x y : FramesCall) → Decides (frames.eq x y) (x ≡ y)
 frames_same x y = grind arith
@@ -114,109 +99,72 @@ exceptions_same x y = grind arith
 
 objects_same : (x y : ObjectsCall) → Decides (objects.eq x y) (x ≡ y)
 objects_same (FindClass a) (FindClass p) = grind (arith, name_same a p)
-objects_same (FindClass a) y = grind arith
 objects_same (GetObjectClass a) (GetObjectClass p) = grind (arith, ref_same a p)
-objects_same (GetObjectClass a) y = grind arith
 objects_same (IsInstanceOf a b) (IsInstanceOf p q) = grind (arith, ref_same a p, ref_same b q)
-objects_same (IsInstanceOf a b) y = grind arith
 objects_same (AllocObject a) (AllocObject p) = grind (arith, ref_same a p)
-objects_same (AllocObject a) y = grind arith
 objects_same (GetFieldID a b c) (GetFieldID p q r) = three _ _ _ (ref_same a p) (name_same b q) (name_same c r) (λ e f g. cc) (λ e. cc) (λ e. cc) (λ e. cc)
-objects_same (GetFieldID a b c) y = grind arith
 objects_same (GetField a b c) (GetField p q r) = three _ _ _ (primitive_same a p) (ref_same b q) (field_same c r) (λ e f g. cc) (λ e. cc) (λ e. cc) (λ e. cc)
-objects_same (GetField a b c) y = grind arith
 objects_same (GetObjectField a b) (GetObjectField p q) = grind (arith, ref_same a p, field_same b q)
-objects_same (GetObjectField a b) y = grind arith
 objects_same (SetField a b c d) (SetField p q r s) =
     four _ _ _ _ (primitive_same a p) (ref_same b q) (field_same c r) (Decides-int_eq d s) (λ e f g h. cc) (λ e. cc) (λ e. cc) (λ e. cc) (λ e. cc)
-objects_same (SetField a b c d) y = grind arith
 objects_same (SetObjectField a b c) (SetObjectField p q r) =
     three _ _ _ (ref_same a p) (field_same b q) (ref_same c r) (λ e f g. cc) (λ e. cc) (λ e. cc) (λ e. cc)
-objects_same (SetObjectField a b c) y = grind arith
+objects_same x y = grind arith
 
 strings_same : (x y : StringsCall) → Decides (strings.eq x y) (x ≡ y)
 strings_same (NewString a) (NewString p) = grind (arith, items_same a p)
-strings_same (NewString a) y = grind arith
 strings_same (NewStringUTF a) (NewStringUTF p) = grind (arith, items_same a p)
-strings_same (NewStringUTF a) y = grind arith
 strings_same (GetStringLength a) (GetStringLength p) = grind (arith, ref_same a p)
-strings_same (GetStringLength a) y = grind arith
 strings_same (GetStringUTFLength a) (GetStringUTFLength p) = grind (arith, ref_same a p)
-strings_same (GetStringUTFLength a) y = grind arith
 strings_same (GetStringRegion a b c) (GetStringRegion p q r) = grind (arith, ref_same a p)
-strings_same (GetStringRegion a b c) y = grind arith
+strings_same x y = grind arith
 
 arrays_same : (x y : ArraysCall) → Decides (arrays.eq x y) (x ≡ y)
 arrays_same (NewArray a b) (NewArray p q) = grind (arith, primitive_same a p)
-arrays_same (NewArray a b) y = grind arith
 arrays_same (GetArrayLength a) (GetArrayLength p) = grind (arith, ref_same a p)
-arrays_same (GetArrayLength a) y = grind arith
 arrays_same (GetArrayRegion a b c d) (GetArrayRegion p q r s) =
     four _ _ _ _ (primitive_same a p) (ref_same b q) (Decides-int_eq c r) (Decides-int_eq d s) (λ e f g h. cc) (λ e. cc) (λ e. cc) (λ e. cc) (λ e. cc)
-arrays_same (GetArrayRegion a b c d) y = grind arith
 arrays_same (SetArrayRegion a b c d) (SetArrayRegion p q r s) =
     four _ _ _ _ (primitive_same a p) (ref_same b q) (Decides-int_eq c r) (items_same d s) (λ e f g h. cc) (λ e. cc) (λ e. cc) (λ e. cc) (λ e. cc)
-arrays_same (SetArrayRegion a b c d) y = grind arith
 arrays_same (NewObjectArray a b c) (NewObjectArray p q r) =
     three _ _ _ (Decides-int_eq a p) (ref_same b q) (ref_same c r) (λ e f g. cc) (λ e. cc) (λ e. cc) (λ e. cc)
-arrays_same (NewObjectArray a b c) y = grind arith
 arrays_same (GetObjectArrayElement a b) (GetObjectArrayElement p q) = grind (arith, ref_same a p)
-arrays_same (GetObjectArrayElement a b) y = grind arith
 arrays_same (SetObjectArrayElement a b c) (SetObjectArrayElement p q r) =
     three _ _ _ (ref_same a p) (Decides-int_eq b q) (ref_same c r) (λ e f g. cc) (λ e. cc) (λ e. cc) (λ e. cc)
-arrays_same (SetObjectArrayElement a b c) y = grind arith
+arrays_same x y = grind arith
 
 monitors_same : (x y : MonitorsCall) → Decides (monitors.eq x y) (x ≡ y)
 monitors_same x y = grind arith
 
 buffers_same : (x y : BuffersCall) → Decides (buffers.eq x y) (x ≡ y)
 buffers_same (GetArrayElements a b) (GetArrayElements p q) = grind (arith, primitive_same a p, ref_same b q)
-buffers_same (GetArrayElements a b) y = grind arith
 buffers_same (ReleaseArrayElements a b c d) (ReleaseArrayElements p q r s) =
     four _ _ _ _ (primitive_same a p) (ref_same b q) (buffer_same c r) (Decides-int_eq d s) (λ e f g h. cc) (λ e. cc) (λ e. cc) (λ e. cc) (λ e. cc)
-buffers_same (ReleaseArrayElements a b c d) y = grind arith
 buffers_same (GetStringChars a) (GetStringChars p) = grind (arith, ref_same a p)
-buffers_same (GetStringChars a) y = grind arith
 buffers_same (ReleaseStringChars a b) (ReleaseStringChars p q) = grind (arith, ref_same a p, buffer_same b q)
-buffers_same (ReleaseStringChars a b) y = grind arith
 buffers_same (GetStringUTFChars a) (GetStringUTFChars p) = grind (arith, ref_same a p)
-buffers_same (GetStringUTFChars a) y = grind arith
 buffers_same (ReleaseStringUTFChars a b) (ReleaseStringUTFChars p q) = grind (arith, ref_same a p, buffer_same b q)
-buffers_same (ReleaseStringUTFChars a b) y = grind arith
 buffers_same (GetPrimitiveArrayCritical a) (GetPrimitiveArrayCritical p) = grind (arith, ref_same a p)
-buffers_same (GetPrimitiveArrayCritical a) y = grind arith
 buffers_same (ReleasePrimitiveArrayCritical a b c) (ReleasePrimitiveArrayCritical p q r) =
     three _ _ _ (ref_same a p) (buffer_same b q) (Decides-int_eq c r) (λ e f g. cc) (λ e. cc) (λ e. cc) (λ e. cc)
-buffers_same (ReleasePrimitiveArrayCritical a b c) y = grind arith
 buffers_same (GetStringCritical a) (GetStringCritical p) = grind (arith, ref_same a p)
-buffers_same (GetStringCritical a) y = grind arith
 buffers_same (ReleaseStringCritical a b) (ReleaseStringCritical p q) = grind (arith, ref_same a p, buffer_same b q)
-buffers_same (ReleaseStringCritical a b) y = grind arith
 buffers_same (BufferRead a b) (BufferRead p q) = grind (arith, buffer_same a p)
-buffers_same (BufferRead a b) y = grind arith
 buffers_same (BufferWrite a b c) (BufferWrite p q r) =
     three _ _ _ (buffer_same a p) (Decides-int_eq b q) (Decides-int_eq c r) (λ e f g. cc) (λ e. cc) (λ e. cc) (λ e. cc)
-buffers_same (BufferWrite a b c) y = grind arith
+buffers_same x y = grind arith
 
 pub call_same : (x y : Call) → Decides (calls.eq x y) (x ≡ y)
 call_same (Vm a) (Vm b) = grind (arith, vm_same a b)
-call_same (Vm a) y = grind arith
 call_same (Refs a) (Refs b) = grind (arith, refs_same a b)
-call_same (Refs a) y = grind arith
 call_same (Frames a) (Frames b) = grind (arith, frames_same a b)
-call_same (Frames a) y = grind arith
 call_same (Exceptions a) (Exceptions b) = grind (arith, exceptions_same a b)
-call_same (Exceptions a) y = grind arith
 call_same (Objects a) (Objects b) = grind (arith, objects_same a b)
-call_same (Objects a) y = grind arith
 call_same (Strings a) (Strings b) = grind (arith, strings_same a b)
-call_same (Strings a) y = grind arith
 call_same (Arrays a) (Arrays b) = grind (arith, arrays_same a b)
-call_same (Arrays a) y = grind arith
 call_same (Monitors a) (Monitors b) = grind (arith, monitors_same a b)
-call_same (Monitors a) y = grind arith
 call_same (Buffers a) (Buffers b) = grind (arith, buffers_same a b)
-call_same (Buffers a) y = grind arith
+call_same x y = grind arith
 
 pub value_same : (x y : Value) → Decides (value_tests.eq x y) (x ≡ y)
 value_same x y = grind (arith, items_same)

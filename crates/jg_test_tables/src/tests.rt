@@ -14,6 +14,7 @@ mod own_machine;
 mod refused;
 mod threads;
 mod told;
+mod witness;
 mod words;
 
 use linked_list_allocator::LocalHeap;

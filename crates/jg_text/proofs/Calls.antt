@@ -42,19 +42,15 @@ use Rattle.jg_words.specs.declared.call.monitors.MonitorsCall.TheVariants.{Monit
 use Rattle.jg_words.specs.declared.call.buffers.BuffersCall.{BuffersCall}
 use Rattle.jg_words.specs.declared.call.buffers.BuffersCall.TheVariants.{GetArrayElements, ReleaseArrayElements, GetStringChars, ReleaseStringChars, GetStringUTFChars, ReleaseStringUTFChars, GetPrimitiveArrayCritical, ReleasePrimitiveArrayCritical, GetStringCritical, ReleaseStringCritical, BufferRead, BufferWrite}
 use Rattle.jg_words.specs.Call.{fun_of, vm_fun, refs_fun, frames_fun, exceptions_fun, objects_fun, strings_fun, arrays_fun, monitors_fun, buffers_fun}
-use Rattle.jg_text.specs.Kinds.{OperandKind, Reference, Number, LongNumber, Numbers, Name, Field, Buffer}
+use Rattle.jg_text.specs.Kinds.{OperandKind, Numbers, Name}
 use Rattle.jg_text.specs.Words.{kind_of}
 use Rattle.jg_text.specs.Operands.{operands, operand_kinds, vm_operands, vm_kinds, refs_operands, refs_kinds, frames_operands, frames_kinds, exceptions_operands, exceptions_kinds, objects_operands, objects_kinds, strings_operands, strings_kinds, arrays_operands, arrays_kinds, monitors_operands, monitors_kinds, buffers_operands, buffers_kinds}
 
 -- how long an operand of the kind is at most
 abbrev pub longest : OperandKind → ℕ
-longest Reference = 42
-longest Number = 42
-longest LongNumber = 42
 longest Numbers = 21002
 longest Name = 255
-longest Field = 42
-longest Buffer = 42
+longest call = 42
 
 -- how long operands of these kinds are at most, with a space before each
 abbrev pub room : List OperandKind → ℕ
@@ -75,25 +71,11 @@ vm_same _ _ e1 e2 = absurd (cc)
 
 vm_few : (f : VmFun) → room (vm_kinds f) ≤ 21600
 vm_few vm.AttachCurrentThread = omega arith
-vm_few vm.DetachCurrentThread = omega arith
-vm_few vm.GetEnv = omega arith
-vm_few vm.NativeEnter = omega arith
-vm_few vm.NativeLeave = omega arith
-vm_few vm.LoadLibrary = omega arith
-vm_few vm.RegisterNatives = omega arith
-vm_few vm.UnregisterNatives = omega arith
-vm_few vm.Collect = omega arith
+vm_few fun = omega arith
 
 vm_same_kinds : (c : VmCall) → map kind_of (vm_operands c) ≡ vm_kinds (vm_fun c)
 vm_same_kinds AttachCurrentThread = refl
-vm_same_kinds DetachCurrentThread = refl
-vm_same_kinds GetEnv = refl
-vm_same_kinds (NativeEnter class method signature) = refl
-vm_same_kinds (NativeLeave kept) = refl
-vm_same_kinds (LoadLibrary class library) = refl
-vm_same_kinds (RegisterNatives class method signature) = refl
-vm_same_kinds (UnregisterNatives class) = refl
-vm_same_kinds Collect = refl
+vm_same_kinds call = refl
 
 refs_same : (c d : RefsCall) → refs_fun c ≡ refs_fun d → refs_operands c ≡ refs_operands d → c ≡ d
 refs_same (NewLocalRef a0) (NewLocalRef b0) e1 e2 = cc
@@ -108,23 +90,11 @@ refs_same _ _ e1 e2 = absurd (cc)
 
 refs_few : (f : RefsFun) → room (refs_kinds f) ≤ 21600
 refs_few refs.NewLocalRef = omega arith
-refs_few refs.NewGlobalRef = omega arith
-refs_few refs.NewWeakGlobalRef = omega arith
-refs_few refs.DeleteLocalRef = omega arith
-refs_few refs.DeleteGlobalRef = omega arith
-refs_few refs.DeleteWeakGlobalRef = omega arith
-refs_few refs.IsSameObject = omega arith
-refs_few refs.GetObjectRefType = omega arith
+refs_few fun = omega arith
 
 refs_same_kinds : (c : RefsCall) → map kind_of (refs_operands c) ≡ refs_kinds (refs_fun c)
 refs_same_kinds (NewLocalRef r) = refl
-refs_same_kinds (NewGlobalRef r) = refl
-refs_same_kinds (NewWeakGlobalRef r) = refl
-refs_same_kinds (DeleteLocalRef r) = refl
-refs_same_kinds (DeleteGlobalRef r) = refl
-refs_same_kinds (DeleteWeakGlobalRef r) = refl
-refs_same_kinds (IsSameObject r q) = refl
-refs_same_kinds (GetObjectRefType r) = refl
+refs_same_kinds call = refl
 
 frames_same : (c d : FramesCall) → frames_fun c ≡ frames_fun d → frames_operands c ≡ frames_operands d → c ≡ d
 frames_same (PushLocalFrame a0) (PushLocalFrame b0) e1 e2 = cc
@@ -152,17 +122,11 @@ exceptions_same _ _ e1 e2 = absurd (cc)
 
 exceptions_few : (f : ExceptionsFun) → room (exceptions_kinds f) ≤ 21600
 exceptions_few exceptions.Throw = omega arith
-exceptions_few exceptions.ExceptionOccurred = omega arith
-exceptions_few exceptions.ExceptionDescribe = omega arith
-exceptions_few exceptions.ExceptionClear = omega arith
-exceptions_few exceptions.ExceptionCheck = omega arith
+exceptions_few fun = omega arith
 
 exceptions_same_kinds : (c : ExceptionsCall) → map kind_of (exceptions_operands c) ≡ exceptions_kinds (exceptions_fun c)
 exceptions_same_kinds (Throw exception) = refl
-exceptions_same_kinds ExceptionOccurred = refl
-exceptions_same_kinds ExceptionDescribe = refl
-exceptions_same_kinds ExceptionClear = refl
-exceptions_same_kinds ExceptionCheck = refl
+exceptions_same_kinds call = refl
 
 objects_same : (c d : ObjectsCall) → objects_fun c ≡ objects_fun d → objects_operands c ≡ objects_operands d → c ≡ d
 objects_same (FindClass a0) (FindClass b0) e1 e2 = cc
@@ -178,25 +142,11 @@ objects_same _ _ e1 e2 = absurd (cc)
 
 objects_few : (f : ObjectsFun) → room (objects_kinds f) ≤ 21600
 objects_few objects.FindClass = omega arith
-objects_few objects.GetObjectClass = omega arith
-objects_few objects.IsInstanceOf = omega arith
-objects_few objects.AllocObject = omega arith
-objects_few objects.GetFieldID = omega arith
-objects_few (objects.GetField primitive) = omega arith
-objects_few objects.GetObjectField = omega arith
-objects_few (objects.SetField primitive) = omega arith
-objects_few objects.SetObjectField = omega arith
+objects_few fun = omega arith
 
 objects_same_kinds : (c : ObjectsCall) → map kind_of (objects_operands c) ≡ objects_kinds (objects_fun c)
 objects_same_kinds (FindClass name) = refl
-objects_same_kinds (GetObjectClass object) = refl
-objects_same_kinds (IsInstanceOf object class) = refl
-objects_same_kinds (AllocObject class) = refl
-objects_same_kinds (GetFieldID class field signature) = refl
-objects_same_kinds (GetField primitive object field) = refl
-objects_same_kinds (GetObjectField object field) = refl
-objects_same_kinds (SetField primitive object field value) = refl
-objects_same_kinds (SetObjectField object field value) = refl
+objects_same_kinds call = refl
 
 strings_same : (c d : StringsCall) → strings_fun c ≡ strings_fun d → strings_operands c ≡ strings_operands d → c ≡ d
 strings_same (NewString a0) (NewString b0) e1 e2 = cc
@@ -208,17 +158,11 @@ strings_same _ _ e1 e2 = absurd (cc)
 
 strings_few : (f : StringsFun) → room (strings_kinds f) ≤ 21600
 strings_few strings.NewString = omega arith
-strings_few strings.NewStringUTF = omega arith
-strings_few strings.GetStringLength = omega arith
-strings_few strings.GetStringUTFLength = omega arith
-strings_few strings.GetStringRegion = omega arith
+strings_few fun = omega arith
 
 strings_same_kinds : (c : StringsCall) → map kind_of (strings_operands c) ≡ strings_kinds (strings_fun c)
 strings_same_kinds (NewString units) = refl
-strings_same_kinds (NewStringUTF bytes) = refl
-strings_same_kinds (GetStringLength string) = refl
-strings_same_kinds (GetStringUTFLength string) = refl
-strings_same_kinds (GetStringRegion string start length) = refl
+strings_same_kinds call = refl
 
 arrays_same : (c d : ArraysCall) → arrays_fun c ≡ arrays_fun d → arrays_operands c ≡ arrays_operands d → c ≡ d
 arrays_same (NewArray a0 a1) (NewArray b0 b1) e1 e2 = cc
@@ -232,21 +176,11 @@ arrays_same _ _ e1 e2 = absurd (cc)
 
 arrays_few : (f : ArraysFun) → room (arrays_kinds f) ≤ 21600
 arrays_few (arrays.NewArray element) = omega arith
-arrays_few arrays.GetArrayLength = omega arith
-arrays_few (arrays.GetArrayRegion element) = omega arith
-arrays_few (arrays.SetArrayRegion element) = omega arith
-arrays_few arrays.NewObjectArray = omega arith
-arrays_few arrays.GetObjectArrayElement = omega arith
-arrays_few arrays.SetObjectArrayElement = omega arith
+arrays_few fun = omega arith
 
 arrays_same_kinds : (c : ArraysCall) → map kind_of (arrays_operands c) ≡ arrays_kinds (arrays_fun c)
 arrays_same_kinds (NewArray element length) = refl
-arrays_same_kinds (GetArrayLength array) = refl
-arrays_same_kinds (GetArrayRegion element array start length) = refl
-arrays_same_kinds (SetArrayRegion element array start values) = refl
-arrays_same_kinds (NewObjectArray length class fill) = refl
-arrays_same_kinds (GetObjectArrayElement array index) = refl
-arrays_same_kinds (SetObjectArrayElement array index value) = refl
+arrays_same_kinds call = refl
 
 monitors_same : (c d : MonitorsCall) → monitors_fun c ≡ monitors_fun d → monitors_operands c ≡ monitors_operands d → c ≡ d
 monitors_same (MonitorEnter a0) (MonitorEnter b0) e1 e2 = cc
@@ -278,31 +212,11 @@ buffers_same _ _ e1 e2 = absurd (cc)
 
 buffers_few : (f : BuffersFun) → room (buffers_kinds f) ≤ 21600
 buffers_few (buffers.GetArrayElements element) = omega arith
-buffers_few (buffers.ReleaseArrayElements element) = omega arith
-buffers_few buffers.GetStringChars = omega arith
-buffers_few buffers.ReleaseStringChars = omega arith
-buffers_few buffers.GetStringUTFChars = omega arith
-buffers_few buffers.ReleaseStringUTFChars = omega arith
-buffers_few buffers.GetPrimitiveArrayCritical = omega arith
-buffers_few buffers.ReleasePrimitiveArrayCritical = omega arith
-buffers_few buffers.GetStringCritical = omega arith
-buffers_few buffers.ReleaseStringCritical = omega arith
-buffers_few buffers.BufferRead = omega arith
-buffers_few buffers.BufferWrite = omega arith
+buffers_few fun = omega arith
 
 buffers_same_kinds : (c : BuffersCall) → map kind_of (buffers_operands c) ≡ buffers_kinds (buffers_fun c)
 buffers_same_kinds (GetArrayElements element array) = refl
-buffers_same_kinds (ReleaseArrayElements element array buffer mode) = refl
-buffers_same_kinds (GetStringChars string) = refl
-buffers_same_kinds (ReleaseStringChars string buffer) = refl
-buffers_same_kinds (GetStringUTFChars string) = refl
-buffers_same_kinds (ReleaseStringUTFChars string buffer) = refl
-buffers_same_kinds (GetPrimitiveArrayCritical array) = refl
-buffers_same_kinds (ReleasePrimitiveArrayCritical array buffer mode) = refl
-buffers_same_kinds (GetStringCritical string) = refl
-buffers_same_kinds (ReleaseStringCritical string buffer) = refl
-buffers_same_kinds (BufferRead buffer index) = refl
-buffers_same_kinds (BufferWrite buffer index value) = refl
+buffers_same_kinds call = refl
 
 pub same_call : (c d : Call) → fun_of c ≡ fun_of d → operands c ≡ operands d → c ≡ d
 same_call (Vm c) (Vm d) e1 e2 = ap Vm (vm_same c d (cc) e2)

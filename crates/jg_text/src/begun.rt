@@ -14,9 +14,9 @@ ghost use Rattle.jg_text.specs.Faults.{fields};
 ghost use Rattle.jg_text.specs.Begun.{BeginsWith, BeginsCall};
 
 use crate::fault::ScriptFault;
-use crate::groups;
 use crate::operand::cut;
 use crate::read::read_call;
+use crate::takes::arity;
 use jg_words::{Call, EnvId, Fun, Tid};
 use std::alloc::{AllocError, Global};
 
@@ -49,7 +49,7 @@ fn fields_of_call(text: &[u8]) -> Option<usize>
     let (_, rest) = cut(rest?);
     let (name, _) = cut(rest?);
     let fun = Fun::of_bytes(name)?;
-    Some(groups::arity(fun) + 3)
+    Some(arity(fun) + 3)
 }
 
 /// So many fields, and what stands behind the space after them.

@@ -1,6 +1,6 @@
-//! The operands of a call, by the call's group: how many there are, reading and writing them.
+//! The operands of a call, by the call's group: reading and writing them.
 
-ghost use Rattle.std.specs.Prelude.{◌≡◌, ◌++◌, length, IfOk, IfErr, OnOk, string_bytes};
+ghost use Rattle.std.specs.Prelude.{◌≡◌, ◌++◌, IfOk, IfErr, OnOk, string_bytes};
 ghost use Rattle.std.specs.Option.{option_copied};
 ghost use Rattle.jg_text.specs.Operands.{operand_kinds, operand_texts};
 ghost use Rattle.jg_text.specs.Pieces.{SpellCall};
@@ -19,23 +19,6 @@ mod vm;
 use crate::fault::ScriptFault;
 use jg_words::{Call, Fun};
 use std::alloc::{AllocError, Global};
-
-/// How many operands the function takes.
-pub fn arity(fun: Fun) -> usize
-    ensures { result ≡ length (operand_kinds fun) }
-{
-    match fun {
-        Fun::Vm(fun) => vm::arity(fun),
-        Fun::Refs(fun) => refs::arity(fun),
-        Fun::Frames(fun) => frames::arity(fun),
-        Fun::Exceptions(fun) => exceptions::arity(fun),
-        Fun::Objects(fun) => objects::arity(fun),
-        Fun::Strings(fun) => strings::arity(fun),
-        Fun::Arrays(fun) => arrays::arity(fun),
-        Fun::Monitors(fun) => monitors::arity(fun),
-        Fun::Buffers(fun) => buffers::arity(fun),
-    }
-}
 
 /// The call of the function whose operands these fields are.
 pub fn read(alloc: Global, fun: Fun, rest: Option<&[u8]>) -> Result<Call, ScriptFault>

@@ -13,6 +13,7 @@ use crate::first::{first_env, first_tid};
 use crate::groups;
 use crate::number::count_of;
 use crate::operand::cut;
+use crate::takes::arity;
 use jg_words::{Call, EnvId, Fun, Tid};
 use std::alloc::Global;
 
@@ -68,7 +69,7 @@ fn read_fields(alloc: Global, line: &[u8]) -> Result<(Tid, Option<EnvId>, Call),
     };
     match groups::read(alloc, fun, rest) {
         Ok(call) => Ok((tid, env, call)),
-        Err(_) if count_fields(rest) != groups::arity(fun) => Err(ScriptFault::WrongCount),
+        Err(_) if count_fields(rest) != arity(fun) => Err(ScriptFault::WrongCount),
         Err(fault) => Err(fault),
     }
 }

@@ -1,6 +1,6 @@
 //! What operands each function takes.
 
-ghost use Rattle.std.specs.Prelude.{◌≡◌, map};
+ghost use Rattle.std.specs.Prelude.{◌≡◌, length, map};
 ghost use Rattle.jg_text.specs.Operands.{operand_kinds, vm_kinds, refs_kinds, frames_kinds, exceptions_kinds, objects_kinds, strings_kinds, arrays_kinds, monitors_kinds, buffers_kinds};
 ghost use Rattle.jg_text.specs.Places.{kind_meant};
 
@@ -160,4 +160,11 @@ pub fn operands_of(fun: Fun) -> &'static [OperandKind]
         Fun::Monitors(fun) => monitors_operands(fun),
         Fun::Buffers(fun) => buffers_operands(fun),
     }
+}
+
+/// How many operands the function takes.
+pub(crate) fn arity(fun: Fun) -> usize
+    ensures { result ≡ length (operand_kinds fun) }
+{
+    operands_of(fun).len()
 }

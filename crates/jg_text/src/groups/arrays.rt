@@ -13,21 +13,6 @@ use crate::operand::{read_one, read_three, read_two, write_one, write_three, wri
 use jg_words::{ArraysCall, ArraysFun};
 use std::alloc::{AllocError, Global};
 
-/// How many operands the function takes.
-pub fn arity(fun: ArraysFun) -> usize
-    ensures { result ≡ length (arrays_kinds fun) }
-{
-    match fun {
-        ArraysFun::NewArray(_) => 1,
-        ArraysFun::GetArrayLength => 1,
-        ArraysFun::GetArrayRegion(_) => 3,
-        ArraysFun::SetArrayRegion(_) => 3,
-        ArraysFun::NewObjectArray => 3,
-        ArraysFun::GetObjectArrayElement => 2,
-        ArraysFun::SetObjectArrayElement => 3,
-    }
-}
-
 /// The call of the function whose operands the fields left spell.
 pub fn read(alloc: Global, fun: ArraysFun, rest: Option<&[u8]>) -> Result<ArraysCall, ScriptFault>
     ensures fits { IfOk result (λ c. AllByRecursion FitsWord (arrays_operands c)) }

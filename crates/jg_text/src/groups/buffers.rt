@@ -1,6 +1,6 @@
 //! The operands of calls of this group: buffers.
 
-ghost use Rattle.std.specs.Prelude.{◌≡◌, ◌++◌, length, map, IfOk, IfErr, OnOk, string_bytes};
+ghost use Rattle.std.specs.Prelude.{◌≡◌, ◌++◌, map, IfOk, IfErr, OnOk, string_bytes};
 ghost use Rattle.std.specs.List.{AllByRecursion};
 ghost use Rattle.std.specs.Option.{option_copied};
 ghost use Rattle.jg_words.specs.Call.{buffers_fun};
@@ -12,26 +12,6 @@ use crate::fault::ScriptFault;
 use crate::operand::{read_one, read_three, read_two, write_one, write_three, write_two};
 use jg_words::{BuffersCall, BuffersFun};
 use std::alloc::{AllocError, Global};
-
-/// How many operands the function takes.
-pub fn arity(fun: BuffersFun) -> usize
-    ensures { result ≡ length (buffers_kinds fun) }
-{
-    match fun {
-        BuffersFun::GetArrayElements(_) => 1,
-        BuffersFun::ReleaseArrayElements(_) => 3,
-        BuffersFun::GetStringChars => 1,
-        BuffersFun::ReleaseStringChars => 2,
-        BuffersFun::GetStringUTFChars => 1,
-        BuffersFun::ReleaseStringUTFChars => 2,
-        BuffersFun::GetPrimitiveArrayCritical => 1,
-        BuffersFun::ReleasePrimitiveArrayCritical => 3,
-        BuffersFun::GetStringCritical => 1,
-        BuffersFun::ReleaseStringCritical => 2,
-        BuffersFun::BufferRead => 2,
-        BuffersFun::BufferWrite => 3,
-    }
-}
 
 /// The call of the function whose operands the fields left spell.
 pub fn read(alloc: Global, fun: BuffersFun, rest: Option<&[u8]>) -> Result<BuffersCall, ScriptFault>

@@ -1,6 +1,6 @@
 //! The operands of calls of this group: exceptions.
 
-ghost use Rattle.std.specs.Prelude.{◌≡◌, ◌++◌, length, map, IfOk, IfErr, OnOk, string_bytes};
+ghost use Rattle.std.specs.Prelude.{◌≡◌, ◌++◌, map, IfOk, IfErr, OnOk, string_bytes};
 ghost use Rattle.std.specs.List.{AllByRecursion};
 ghost use Rattle.std.specs.Option.{option_copied};
 ghost use Rattle.jg_words.specs.Call.{exceptions_fun};
@@ -12,19 +12,6 @@ use crate::fault::ScriptFault;
 use crate::operand::{read_none, read_one, write_one};
 use jg_words::{ExceptionsCall, ExceptionsFun};
 use std::alloc::{AllocError, Global};
-
-/// How many operands the function takes.
-pub fn arity(fun: ExceptionsFun) -> usize
-    ensures { result ≡ length (exceptions_kinds fun) }
-{
-    match fun {
-        ExceptionsFun::Throw => 1,
-        ExceptionsFun::ExceptionOccurred => 0,
-        ExceptionsFun::ExceptionDescribe => 0,
-        ExceptionsFun::ExceptionClear => 0,
-        ExceptionsFun::ExceptionCheck => 0,
-    }
-}
 
 /// The call of the function whose operands the fields left spell.
 pub fn read(

@@ -1,6 +1,6 @@
 //! The operands of calls of this group: frames of local references.
 
-ghost use Rattle.std.specs.Prelude.{◌≡◌, ◌++◌, length, map, IfOk, IfErr, OnOk, string_bytes};
+ghost use Rattle.std.specs.Prelude.{◌≡◌, ◌++◌, map, IfOk, IfErr, OnOk, string_bytes};
 ghost use Rattle.std.specs.List.{AllByRecursion};
 ghost use Rattle.std.specs.Option.{option_copied};
 ghost use Rattle.jg_words.specs.Call.{frames_fun};
@@ -12,17 +12,6 @@ use crate::fault::ScriptFault;
 use crate::operand::{read_one, write_one};
 use jg_words::{FramesCall, FramesFun};
 use std::alloc::{AllocError, Global};
-
-/// How many operands the function takes.
-pub fn arity(fun: FramesFun) -> usize
-    ensures { result ≡ length (frames_kinds fun) }
-{
-    match fun {
-        FramesFun::PushLocalFrame => 1,
-        FramesFun::PopLocalFrame => 1,
-        FramesFun::EnsureLocalCapacity => 1,
-    }
-}
 
 /// The call of the function whose operands the fields left spell.
 pub fn read(alloc: Global, fun: FramesFun, rest: Option<&[u8]>) -> Result<FramesCall, ScriptFault>

@@ -1,6 +1,6 @@
 //! The operands of calls of this group: monitors.
 
-ghost use Rattle.std.specs.Prelude.{◌≡◌, ◌++◌, length, map, IfOk, IfErr, OnOk, string_bytes};
+ghost use Rattle.std.specs.Prelude.{◌≡◌, ◌++◌, map, IfOk, IfErr, OnOk, string_bytes};
 ghost use Rattle.std.specs.List.{AllByRecursion};
 ghost use Rattle.std.specs.Option.{option_copied};
 ghost use Rattle.jg_words.specs.Call.{monitors_fun};
@@ -12,16 +12,6 @@ use crate::fault::ScriptFault;
 use crate::operand::{read_one, write_one};
 use jg_words::{MonitorsCall, MonitorsFun};
 use std::alloc::{AllocError, Global};
-
-/// How many operands the function takes.
-pub fn arity(fun: MonitorsFun) -> usize
-    ensures { result ≡ length (monitors_kinds fun) }
-{
-    match fun {
-        MonitorsFun::MonitorEnter => 1,
-        MonitorsFun::MonitorExit => 1,
-    }
-}
 
 /// The call of the function whose operands the fields left spell.
 pub fn read(

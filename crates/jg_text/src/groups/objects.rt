@@ -1,6 +1,6 @@
 //! The operands of calls of this group: classes, objects and their fields.
 
-ghost use Rattle.std.specs.Prelude.{◌≡◌, ◌++◌, length, map, IfOk, IfErr, OnOk, string_bytes};
+ghost use Rattle.std.specs.Prelude.{◌≡◌, ◌++◌, map, IfOk, IfErr, OnOk, string_bytes};
 ghost use Rattle.std.specs.List.{AllByRecursion};
 ghost use Rattle.std.specs.Option.{option_copied};
 ghost use Rattle.jg_words.specs.Call.{objects_fun};
@@ -12,23 +12,6 @@ use crate::fault::ScriptFault;
 use crate::operand::{read_one, read_three, read_two, write_one, write_three, write_two};
 use jg_words::{ObjectsCall, ObjectsFun};
 use std::alloc::{AllocError, Global};
-
-/// How many operands the function takes.
-pub fn arity(fun: ObjectsFun) -> usize
-    ensures { result ≡ length (objects_kinds fun) }
-{
-    match fun {
-        ObjectsFun::FindClass => 1,
-        ObjectsFun::GetObjectClass => 1,
-        ObjectsFun::IsInstanceOf => 2,
-        ObjectsFun::AllocObject => 1,
-        ObjectsFun::GetFieldID => 3,
-        ObjectsFun::GetField(_) => 2,
-        ObjectsFun::GetObjectField => 2,
-        ObjectsFun::SetField(_) => 3,
-        ObjectsFun::SetObjectField => 3,
-    }
-}
 
 /// The call of the function whose operands the fields left spell.
 pub fn read(alloc: Global, fun: ObjectsFun, rest: Option<&[u8]>) -> Result<ObjectsCall, ScriptFault>

@@ -1,6 +1,6 @@
 //! The operands of calls of this group: references.
 
-ghost use Rattle.std.specs.Prelude.{◌≡◌, ◌++◌, length, map, IfOk, IfErr, OnOk, string_bytes};
+ghost use Rattle.std.specs.Prelude.{◌≡◌, ◌++◌, map, IfOk, IfErr, OnOk, string_bytes};
 ghost use Rattle.std.specs.List.{AllByRecursion};
 ghost use Rattle.std.specs.Option.{option_copied};
 ghost use Rattle.jg_words.specs.Call.{refs_fun};
@@ -12,22 +12,6 @@ use crate::fault::ScriptFault;
 use crate::operand::{read_one, read_two, write_one, write_two};
 use jg_words::{RefsCall, RefsFun};
 use std::alloc::{AllocError, Global};
-
-/// How many operands the function takes.
-pub fn arity(fun: RefsFun) -> usize
-    ensures { result ≡ length (refs_kinds fun) }
-{
-    match fun {
-        RefsFun::NewLocalRef => 1,
-        RefsFun::NewGlobalRef => 1,
-        RefsFun::NewWeakGlobalRef => 1,
-        RefsFun::DeleteLocalRef => 1,
-        RefsFun::DeleteGlobalRef => 1,
-        RefsFun::DeleteWeakGlobalRef => 1,
-        RefsFun::IsSameObject => 2,
-        RefsFun::GetObjectRefType => 1,
-    }
-}
 
 /// The call of the function whose operands the fields left spell.
 pub fn read(alloc: Global, fun: RefsFun, rest: Option<&[u8]>) -> Result<RefsCall, ScriptFault>

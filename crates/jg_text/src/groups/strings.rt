@@ -13,19 +13,6 @@ use crate::operand::{read_one, read_three, write_one, write_three};
 use jg_words::{StringsCall, StringsFun};
 use std::alloc::{AllocError, Global};
 
-/// How many operands the function takes.
-pub fn arity(fun: StringsFun) -> usize
-    ensures { result ≡ length (strings_kinds fun) }
-{
-    match fun {
-        StringsFun::NewString => 1,
-        StringsFun::NewStringUTF => 1,
-        StringsFun::GetStringLength => 1,
-        StringsFun::GetStringUTFLength => 1,
-        StringsFun::GetStringRegion => 3,
-    }
-}
-
 /// The call of the function whose operands the fields left spell.
 pub fn read(alloc: Global, fun: StringsFun, rest: Option<&[u8]>) -> Result<StringsCall, ScriptFault>
     ensures fits { IfOk result (λ c. AllByRecursion FitsWord (strings_operands c)) }

@@ -1,7 +1,7 @@
 //! The operands of calls of this group: attachment, environments, native methods and the
 //! collector.
 
-ghost use Rattle.std.specs.Prelude.{◌≡◌, ◌++◌, length, map, IfOk, IfErr, OnOk, string_bytes};
+ghost use Rattle.std.specs.Prelude.{◌≡◌, ◌++◌, map, IfOk, IfErr, OnOk, string_bytes};
 ghost use Rattle.std.specs.List.{AllByRecursion};
 ghost use Rattle.std.specs.Option.{option_copied};
 ghost use Rattle.jg_words.specs.Call.{vm_fun};
@@ -15,23 +15,6 @@ use crate::operand::{
 };
 use jg_words::{VmCall, VmFun};
 use std::alloc::{AllocError, Global};
-
-/// How many operands the function takes.
-pub fn arity(fun: VmFun) -> usize
-    ensures { result ≡ length (vm_kinds fun) }
-{
-    match fun {
-        VmFun::AttachCurrentThread => 0,
-        VmFun::DetachCurrentThread => 0,
-        VmFun::GetEnv => 0,
-        VmFun::NativeEnter => 3,
-        VmFun::NativeLeave => 1,
-        VmFun::LoadLibrary => 2,
-        VmFun::RegisterNatives => 3,
-        VmFun::UnregisterNatives => 1,
-        VmFun::Collect => 0,
-    }
-}
 
 /// The call of the function whose operands the fields left spell.
 pub fn read(alloc: Global, fun: VmFun, rest: Option<&[u8]>) -> Result<VmCall, ScriptFault>

@@ -1,0 +1,5 @@
+mod Callers
+pub mod Meanings
+mod Classes
+pub mod Judged
+pub mod Leases
