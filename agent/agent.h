@@ -58,6 +58,9 @@ char *must_copy(const char *text);
         }                                                                                                              \
     } while (0)
 
+/* What stands in each wrapper, so that it knows what of the arguments is none there. */
+#define ALWAYS_INLINE static inline __attribute__((always_inline))
+
 /* The address that a handle is. */
 static inline uintptr_t address_of(jobject handle) {
     return (uintptr_t)handle;

@@ -23,7 +23,7 @@ enum { ZONE = 256, ZONE_BYTE = 0xA5, GIVEN_BYTE = 0xD6, FEWEST_LISTS = 256, MOST
 
 /* A pair of calls, of which the second is yet to come. */
 struct pair {
-    const struct thread *thread;
+    struct thread *thread;
     jg_value name;
     int is_machines;         /* the machine lent its memory for it, and hasn't got it back */
     uint32_t made_by;
@@ -186,6 +186,14 @@ static int has_pair(const struct lent *lent, const struct thread *thread) {
     return has;
 }
 
+/* Whether several pairs are open on it. */
+static int is_shared(const struct lent *lent) {
+    spin_lock(&lock);
+    int is = lent->pair_count > 1;
+    spin_unlock(&lock);
+    return is;
+}
+
 /* The name of that pair: a buffer that isn't plain has one, open or not. */
 static jg_value newest_name(const struct lent *lent, const struct thread *thread) {
     spin_lock(&lock);
@@ -234,6 +242,7 @@ static void leave_out_of_criticals(struct lent *lent) {
 static int close_pair(struct lent *lent, struct pair *pair) {
     if (is_critical(lent->family)) {
         give_up_memory(lent, pair);
+        pair->thread->critical_count--;
     }
     if (lent->pair_count > 1) {
         size_t after = lent->pair_count - 1 - (size_t)(pair - lent->pairs);
@@ -323,6 +332,12 @@ static void look_at_zones(struct lent *lent, const struct seen *seen) {
 
 enum { PIECE = 2048 };
 
+static inline uint64_t word_at(const unsigned char *at) {
+    uint64_t word;
+    memcpy(&word, at, sizeof word);
+    return word;
+}
+
 /* The first place from `at` on where the two differ, or `size`. Other threads may store meanwhile. */
 static size_t difference(const unsigned char *one, const unsigned char *other, size_t at, size_t size) {
     while (at < size) {
@@ -341,51 +356,82 @@ static size_t difference(const unsigned char *one, const unsigned char *other, s
     return size;
 }
 
-/* Changed items: the first, and those that are no value of the type. */
-static void look_at_items(struct lent *lent, const unsigned char *was, const struct seen *seen) {
-    size_t size = objects_item_size(lent->shape), told = 0;
-    size_t at = difference(lent->at, was, 0, lent->bytes);
-    while (at < lent->bytes && told < MOST_TOLD) {
-        const unsigned char *item = lent->at + at / size * size;
-        if (told == 0 || (lent->shape == 'Z' && *item > 1)) {
-            ask_store(lent, seen, (int64_t)(at / size), item_at(lent, item));
-            told++;
+/* The first place from `at` on where a boolean was stored that is none, or the size. */
+static size_t wrong_boolean(const struct lent *lent, const unsigned char *was, size_t at) {
+    const uint64_t others = 0xFEFEFEFEFEFEFEFEu;
+    while (at < lent->bytes) {
+        uint64_t eight = at + sizeof eight <= lent->bytes ? word_at(lent->at + at) : others;
+        if ((eight & others) == 0) {
+            at += sizeof eight;
+        } else if (lent->at[at] > 1 && lent->at[at] != was[at]) {
+            return at;
+        } else {
+            at++;
         }
-        if (lent->shape != 'Z') {
-            return;
-        }
-        at = difference(lent->at, was, at + 1, lent->bytes);
     }
+    return lent->bytes;
 }
 
-/* What was stored. Into a critical buffer only threads with a pair on it may store: another's release says nothing. */
-static void look(struct lent *lent, const struct seen *seen) {
+/* Changed items: the first, and those that are no value of the type. The first place where one was changed. */
+static size_t look_at_items(struct lent *lent, const unsigned char *was, const struct seen *seen) {
+    size_t size = objects_item_size(lent->shape), first = difference(lent->at, was, 0, lent->bytes), told = 0;
+    for (size_t at = first; at < lent->bytes && told < MOST_TOLD; told++) {
+        ask_store(lent, seen, (int64_t)(at / size), item_at(lent, lent->at + at / size * size));
+        at = lent->shape == 'Z' ? wrong_boolean(lent, was, at + 1) : lent->bytes;
+    }
+    return first;
+}
+
+/*
+ * What was stored. Into a critical buffer only threads with a pair on it may store: another's release says nothing. The
+ * first place where the thread alone may have changed an item.
+ */
+static size_t look(struct lent *lent, const struct seen *seen) {
+    size_t first = 0;
     if (is_critical(lent->family) && !has_pair(lent, threads_self())) {
-        return;
+        return 0;
     }
     const unsigned char *was = lent->was ? lent->was : lent->memory;
     if (was != NULL) {
-        look_at_items(lent, was, seen);
+        first = look_at_items(lent, was, seen);
     }
     look_at_zones(lent, seen);
+    return is_shared(lent) ? 0 : first;
 }
 
 /* ---- copying ---- */
 
-/*
- * What was stored into a critical buffer goes into the machine's memory: only items that differ from what was lent.
- * Another thread may store meanwhile, so each is read once.
- */
-static void hand_on(struct lent *lent, unsigned char *memory) {
-    size_t size = objects_item_size(lent->shape);
-    unsigned char item[8];
-    for (size_t at = difference(lent->at, lent->was, 0, lent->bytes); at < lent->bytes;
-         at = difference(lent->at, lent->was, at, lent->bytes)) {
-        at = at / size * size;
-        memcpy(item, lent->at + at, size);
-        memcpy(memory + at, item, size);
-        memcpy(lent->was + at, item, size);
+/* The end of the items from `at` on that all differ, of this size: 1, 2, 4 or 8. */
+static size_t end_of_changed(const unsigned char *one, const unsigned char *other, size_t at, size_t end, size_t size) {
+    /* Of each item of eight bytes the lowest bit, and the highest. */
+    const uint64_t lowest = UINT64_MAX / (UINT64_MAX >> (64 - 8 * size)), highest = lowest << (8 * size - 1);
+    while (at + 8 <= end) {
+        uint64_t change = word_at(one + at) ^ word_at(other + at);
+        if (((change - lowest) & ~change & highest) != 0) {
+            break; /* an item is as it was */
+        }
+        at += 8;
+    }
+    while (at < end && memcmp(one + at, other + at, size) != 0) {
         at += size;
+    }
+    return at;
+}
+
+/*
+ * What was stored into a critical buffer goes into the machine's memory: only items that differ from what was lent. The
+ * first that does stands at `first` or behind it. Another thread may store meanwhile, so the machine is given what is
+ * kept.
+ */
+static void hand_on(struct lent *lent, unsigned char *memory, size_t first) {
+    size_t size = objects_item_size(lent->shape);
+    for (size_t at = difference(lent->at, lent->was, first, lent->bytes); at < lent->bytes;
+         at = difference(lent->at, lent->was, at, lent->bytes)) {
+        size_t begun = at / size * size;
+        at = end_of_changed(lent->at, lent->was, begun, lent->bytes, size);
+        at = at > begun ? at : begun + size;
+        memcpy(lent->was + begun, lent->at + begun, at - begun);
+        memcpy(memory + begun, lent->was + begun, at - begun);
     }
 }
 
@@ -409,14 +455,14 @@ static void fetch(struct lent *lent, const unsigned char *memory) {
 static void exchange(struct lent *lent, unsigned char *memory) {
     pthread_mutex_lock(&lent->items);
     if (!is_of_string(lent->family)) {
-        hand_on(lent, memory);
+        hand_on(lent, memory, 0);
         fetch(lent, memory);
     }
     pthread_mutex_unlock(&lent->items);
 }
 
-/* What was stored goes into the machine's memory. */
-static void copy_back(struct lent *lent, unsigned char *memory) {
+/* What was stored goes into the machine's memory: the first item of a critical buffer at `first` or behind it. */
+static void copy_back(struct lent *lent, unsigned char *memory, size_t first) {
     if (is_of_string(lent->family) || memory == NULL) {
         return;
     }
@@ -425,7 +471,7 @@ static void copy_back(struct lent *lent, unsigned char *memory) {
         return;
     }
     pthread_mutex_lock(&lent->items);
-    hand_on(lent, memory);
+    hand_on(lent, memory, first);
     pthread_mutex_unlock(&lent->items);
 }
 
@@ -578,6 +624,7 @@ static void *lend(struct call *call, void *memory, jboolean *is_copy) {
         return lend_plain(call, memory);
     }
     const struct pair pair = {call->thread, given, 1, call->function, call->site};
+    call->thread->critical_count += (uint32_t)is_critical(family);
     struct lent *lent = is_critical(family) ? lend_critical(call, memory, shape, &pair)
                                             : lend_copy(call, memory, count, shape, &pair);
     if (is_copy != NULL) {
@@ -611,7 +658,7 @@ static int give_critical(struct given_back *given) {
     if (memory == NULL && !is_of_string(lent->family)) {
         memory = machine->GetPrimitiveArrayCritical(given->env, given->object, NULL);
     }
-    copy_back(lent, memory);
+    copy_back(lent, memory, given->changed);
     given->memory = memory;
     spin_lock(&lock);
     pair = pair_of(lent, given->name);
@@ -629,7 +676,7 @@ static int give_to_machine(struct given_back *given) {
         return give_critical(given);
     }
     if (given->mode != JNI_ABORT) {
-        copy_back(lent, lent->memory);
+        copy_back(lent, lent->memory, 0);
     }
     spin_lock(&lock);
     given->memory = lent->memory;
@@ -723,7 +770,7 @@ static int give_judged(struct given_back *given) {
     }
     if (lent != NULL && !lent->is_given) {
         const struct seen seen = {call->site, call->frame};
-        look(lent, &seen);
+        given->changed = look(lent, &seen);
     }
     given->name = lent ? newest_name(lent, call->thread) : jg_buffer(call->thread->number, UINT64_MAX);
     call_operand(call, given->name);

@@ -18,6 +18,7 @@ struct given_back {
     struct call *call; /* NULL where it isn't judged */
     jg_value name;     /* of the pair that it closes */
     void *memory;      /* what the machine is given */
+    size_t changed;    /* the first place of a critical buffer that may have been changed */
     jint mode;
     JNIEnv *env;
     jobject object;

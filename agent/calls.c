@@ -82,6 +82,17 @@ int call_begins(struct call *call, uint32_t function, JNIEnv *env, uintptr_t at,
     return begin(call, function, env, thread, site, frame);
 }
 
+void call_repeats(struct call *call, const struct asked *it, const struct lease *lease, JNIEnv *env) {
+    struct thread *thread = threads_self();
+    call_opens(call, it->function, thread, sites_caller(thread, it->at, it->frame));
+    call->env = env;
+    call->frame = it->frame;
+    call->is_own_env = 1;
+    call->is_asked = 1;
+    call->is_leased = 1;
+    call->first.object = lease->object;
+}
+
 void call_operand_of(struct call *call, jg_value operand, jobject handle) {
     if (call->count == FEW_OPERANDS && call->more == NULL) {
         struct kept kept;
@@ -121,7 +132,7 @@ static int is_free_slot(jobject handle) {
 
 /* An argument of a native method is a place on the stack, which is the machine's word only while the method runs. */
 static int is_stale_argument(const struct thread *thread, uintptr_t handle) {
-    if (handle < thread->stack_low || handle >= thread->stack_high) {
+    if (!threads_has_on_stack(thread, handle)) {
         return 0;
     }
     if (thread->depth == 0) {
@@ -300,10 +311,15 @@ struct reference call_resolve(struct call *call, jobject handle, int wants_objec
         return it;
     }
     int is_known = names_find(address_of(handle), known);
+    if ((!is_known || known->state == NAME_DEAD) && natives_name_unheard(call->thread, handle)) {
+        is_known = names_find(address_of(handle), known);
+    }
     call->has_known = (uint8_t)is_known;
+    int is_believed = is_known && known->state == NAME_LIVE && known->is_believed;
+    call->is_doubtful |= (uint8_t)(!is_believed || known->name.kind == JG_WEAK || is_foreign(call, known));
     if (is_known && known->state == NAME_HELD) {
         it.name = known->name;
-    } else if (is_known && known->state == NAME_LIVE && (known->is_believed || !call->is_own_env)) {
+    } else if (is_believed || (is_known && known->state == NAME_LIVE && !call->is_own_env)) {
         it.name = known->name;
         it.object = is_foreign(call, known) ? NULL : known->object;
     } else if (call->is_own_env) {
@@ -441,6 +457,7 @@ void call_id(struct call *call, const void *id, enum subject subject, char lette
     if (call->last.object != NULL && call->is_own_env) {
         fit = ids_fit(call->env, id, &question);
     }
+    call->is_doubtful |= fit != ID_FITS;
     if ((fit == ID_UNKNOWN && !is_from_start) || (fit != ID_OTHER_RESULT && call->site->library->is_of_jdk)) {
         /* The JDK's own libraries were handed theirs before the agent came, where it is loaded later. */
         fit = ID_FITS;
@@ -457,7 +474,9 @@ void call_id(struct call *call, const void *id, enum subject subject, char lette
     call_operand(call, jg_id(fit == ID_FITS));
 }
 
+/* Whose words a lease doesn't have. */
 static void take_argument(struct call *call, jobject handle) {
+    call->is_doubtful = 1;
     call_operand_of(call, call_resolve(call, handle, 0).name, handle);
 }
 
@@ -603,7 +622,7 @@ int call_passes(struct call *call) {
         call->verdict.rule = JG_PASSED;
         call->verdict.operand = 0;
         call->verdict.ticket = memo->ticket;
-        call->thread->repeated++;
+        threads_count_passed(call->thread, 1);
         call->is_asked = 1;
         return 1;
     }
@@ -700,6 +719,16 @@ static int is_telling(const struct call *call, jg_value says) {
            (call->verdict.rule != JG_PASSED || call->row->effect != EFFECT_NOTHING || !says_done(call, says));
 }
 
+/* A call that has a lease has no ticket: the fact that one would stand for. Between core_lock and core_unlock. */
+static void tell_leased(struct call *call, jg_value says, struct object *object, jg_value *given) {
+    uint32_t thread = call->thread->number;
+    if (says.kind == JG_THREW) {
+        core_tell_of(jg_fact_of(JG_RAISED, thread, jg_nothing(), jg_null(), 0, 0), object, given);
+    } else if (says.kind == JG_OBJECT) {
+        core_tell_of(jg_fact_of(JG_GOT, thread, jg_nothing(), jg_null(), call->row->detail, 0), object, given);
+    }
+}
+
 static void tell_answer(struct call *call, jg_value says, struct object *object, jg_value *given) {
     struct object *thrown = call->row->effect == EFFECT_RAISES ? NULL : thrown_by(call, says);
     if (thrown != NULL) {
@@ -710,10 +739,24 @@ static void tell_answer(struct call *call, jg_value says, struct object *object,
         tell_denied(call, says, object, given);
     } else if (!call->is_ending && (call->row->effect != EFFECT_NOTHING || thrown != NULL)) {
         core_lock();
-        core_did(&call->verdict.ticket, says, object, given);
+        if (call->is_leased) {
+            tell_leased(call, says, object, given);
+        } else {
+            core_did(&call->verdict.ticket, says, object, given);
+        }
         core_unlock();
     }
     note_pending(call, says, object);
+}
+
+void call_threw(struct thread *thread, uint32_t function, JNIEnv *env, const struct site *site) {
+    struct call call;
+    jg_value given;
+    call_opens(&call, function, thread, site);
+    call.env = env;
+    call.is_own_env = 1;
+    call.is_leased = 1;
+    tell_answer(&call, jg_nothing(), NULL, &given);
 }
 
 void call_says(struct call *call, jg_value says, struct object *object, jg_value *given) {

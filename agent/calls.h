@@ -2,15 +2,27 @@
  * calls.h: a call of the function table, from its beginning until what came of it is told. The wrappers that gen.py
  * writes are made of these functions:
  *
- *     struct call call;
- *     if (!call_begins(&call, JG_FN_GetIntField, env, CALLER)) {
+ *     const struct asked asked = {CALLER, JG_FN_GetIntField, 1, {(uintptr_t)obj, (uintptr_t)fieldID}};
+ *     const struct lease *lease = leases_find(&asked, env);
+ *     if (lease != NULL) {
  *         return machine->GetIntField(env, obj, fieldID);
  *     }
+ *     return judged_GetIntField(env, obj, fieldID, CALLER);
+ *
+ * and, in judged_GetIntField:
+ *
+ *     struct call call;
+ *     if (!call_begins(&call, JG_FN_GetIntField, env, at, frame)) {
+ *         return machine->GetIntField(env, obj, fieldID);
+ *     }
+ *     const struct asked asked = {at, frame, JG_FN_GetIntField, 1, {(uintptr_t)obj, (uintptr_t)fieldID}};
+ *     const uint64_t sum = leases_sum(call.thread, &asked);
  *     obj = call_object(&call, obj);
  *     call_id(&call, fieldID, ID_FIELD, 'I', 0, 0);
  *     if (!call_passes(&call)) {
  *         return 0;
  *     }
+ *     leases_take(&call, &asked, sum);
  *     jint result = machine->GetIntField(env, obj, fieldID);
  *     call_done(&call);
  *     return result;
@@ -21,6 +33,7 @@
 #include "agent.h"
 #include "core.h"
 #include "ids.h"
+#include "leases.h"
 #include "names.h"
 #include "sites.h"
 #include "table.h"
@@ -59,6 +72,8 @@ struct call {
     uint8_t has_known;   /* there is a name in `known` */
     uint8_t is_misread;  /* the function answers a reference, and the member of the ID is none or returns none */
     uint8_t is_lost;     /* an operand couldn't be named, by fault of the agent */
+    uint8_t is_doubtful; /* it passes or not by more than the words of its operands (leases.c) */
+    uint8_t is_leased;   /* it passed by a lease, and has no ticket */
     jg_value env_name;
     struct reference first;        /* the first operand that is a reference */
     struct reference last;         /* the last one but for arguments, which an ID is of */
@@ -126,6 +141,12 @@ void call_says(struct call *call, jg_value says, struct object *object, jg_value
 
 /* The machine said how long the object is: the core was told the same, else the mapping is wrong. */
 void call_checks_length(struct call *call, jsize length);
+
+/* A call that has a lease, and hands out a reference. */
+void call_repeats(struct call *call, const struct asked *it, const struct lease *lease, JNIEnv *env);
+
+/* A call of this function at this place had a lease, and threw. */
+void call_threw(struct thread *thread, uint32_t function, JNIEnv *env, const struct site *site);
 
 /* The call isn't made, or wasn't made by this machine: what it took is given back. */
 void call_drops(struct call *call);

@@ -6,10 +6,12 @@
  */
 #include "core.h"
 #include "forks.h"
+#include "leases.h"
 #include "objects.h"
 #include "options.h"
 #include "report.h"
 #include "sites.h"
+#include "table.h"
 
 #include <errno.h>
 #include <fcntl.h>
@@ -22,6 +24,7 @@
 jg_core core = {NULL};
 struct counts counts;
 _Atomic uint64_t core_facts = 1;
+int core_hears_all;
 
 static pthread_mutex_t lock = PTHREAD_ADAPTIVE_MUTEX_INITIALIZER_NP;
 
@@ -264,6 +267,7 @@ int core_open(void) {
         return -1;
     }
     is_advising = options.advice;
+    core_hears_all = options.advice || options.record != NULL;
     forks_open();
     return open_record();
 }
@@ -307,6 +311,46 @@ static int32_t counted(int32_t error) {
     return error;
 }
 
+/* ---- leases ---- */
+
+/*
+ * Ends the leases of the fact's thread where a question of it that passed may be denied after the fact. What ends of a
+ * question's references is noted where their names end (names.c).
+ */
+static void unsettle(const jg_fact *fact) {
+    switch (fact->word) {
+    case JG_LENT:
+        if (fact->first != JG_CRITICAL && fact->first != JG_CRITICAL_STRING) {
+            return;
+        }
+        break;
+    case JG_BEGINS:
+    case JG_ENDS:
+    case JG_ENTERS:
+    case JG_LEAVES:
+    case JG_POPPED:
+    case JG_RAISED:
+        break;
+    default:
+        return;
+    }
+    leases_unsettle(fact->thread);
+}
+
+/* The same of what jg_ending told. */
+static void unsettle_by_ending(const struct question *it) {
+    switch (rows[it->function].effect) {
+    case EFFECT_ENDS:
+    case EFFECT_GIVES_BACK:
+    case EFFECT_CALMS:
+    case EFFECT_FREES:
+    case EFFECT_UNLINKS:
+        return;
+    default:
+        leases_unsettle(it->thread);
+    }
+}
+
 /* ---- questions ---- */
 
 /* The core took the fact: it is recorded, and the adviser hears of it. */
@@ -347,7 +391,10 @@ int32_t core_ask(const struct question *it, jg_verdict *verdict, jg_value *given
         *given = jg_nothing();
     }
     int32_t error = ask(it, verdict, given);
-    core_facts += given != NULL;
+    if (given != NULL) {
+        core_facts++;
+        unsettle_by_ending(it);
+    }
     if (error < 0) {
         if (record >= 0) {
             put_text("# not asked: ");
@@ -372,6 +419,7 @@ static int32_t tell_once(const jg_fact *fact, jg_value *given) {
     *given = jg_nothing();
     int32_t error = jg_tell(&core, fact, given);
     core_facts++;
+    unsettle(fact);
     if (error == 0) {
         note_fact(fact, given);
     } else if (record >= 0) {
@@ -432,15 +480,25 @@ int32_t core_tell_of(jg_fact fact, struct object *object, jg_value *given) {
     return tell_once(&fact, given);
 }
 
+static int is_reference(const jg_value *name) {
+    return name->kind >= JG_LOCAL && name->kind <= JG_WEAK;
+}
+
 int32_t core_did(jg_ticket *ticket, jg_value says, struct object *object, jg_value *given) {
     jg_fact fact;
     *given = jg_nothing();
     int32_t error = jg_did(&core, ticket, &says, given);
     core_facts++;
-    if (error == 0 && !core_needs_all()) {
+    if (error == 0 && is_reference(given) && !core_needs_all()) {
         return 0;
     }
     int32_t is_told = jg_told(ticket, &says, &fact);
+    if (is_told == 1) {
+        unsettle(&fact);
+    }
+    if (error == 0 && !core_needs_all()) {
+        return 0;
+    }
     if (error == 0) {
         if (is_told == 1) {
             note_fact(&fact, given);

@@ -83,6 +83,9 @@ int core_is_recorded(void);
 /* Whether each question must be asked: there is a record, or advice is given. */
 int core_needs_all(void);
 
+/* The same when the core was opened: then nothing may be left out, or told later than it was. */
+extern int core_hears_all;
+
 /* Tells what is advised at the end. */
 void core_advises_at_end(void);
 

@@ -60,11 +60,17 @@ NOTES = {'GetFieldID': 'ids_note_field(env, {0}, result, {2}, 0)',
          'FromReflectedMethod': 'ids_note_method(env, result)',
          'FromReflectedField': 'ids_note_reflected(env, {0}, result)'}
 TYPES = {'BOOLEAN': 'Z', 'BYTE': 'B', 'CHAR': 'C', 'SHORT': 'S', 'INT': 'I', 'LONG': 'J', 'FLOAT': 'F', 'DOUBLE': 'D'}
+LENGTHS = {'GetStringLength', 'GetArrayLength'}
 NULLABLE = {'Nullable', 'Unjudged'}
 PLAIN = {'OBJECT', 'CLASS', 'PLAIN_CLASS', 'INSTANCE_CLASS', 'THROWABLE', 'STRING', 'ARRAY', 'PRIMITIVE_ARRAY',
          'OBJECT_ARRAY', *(it + 'S' for it in TYPES)}
 FAMILIES = {f'Elements({item})': f'JG_{item}S' for item in TYPES} | {
     'Chars': 'JG_STRING', 'UtfChars': 'JG_UTF', 'ArrayCritical': 'JG_CRITICAL', 'StringCritical': 'JG_CRITICAL_STRING'}
+IDS = {'Field', 'AnyField', 'Method', 'Constructor', 'AnyMethod'}
+# Operands of which a lease has no words: numbers that no rule bounds in the agent but from below, values that their
+# types bound, and arguments, which are no references where a call has a lease.
+BEYOND_WORDS = {'Number', 'Count', 'Length', 'Value', 'Items', 'Arguments'}
+LEASED_WORDS = 3
 EFFECTS = ['Nothing', 'Hands', 'Ends', 'Lends', 'GivesBack', 'Pushes', 'Pops', 'Ensures', 'Raises', 'Calms', 'Owns',
            'Frees', 'Attaches', 'Detaches', 'Enters', 'Leaves', 'Loads', 'Links', 'Unlinks', 'Collects']
 
@@ -85,6 +91,12 @@ def declared(function):
     return f'static {function.result}{space}JNICALL wrapped_{function.name}({", ".join(parts)})'
 
 
+def declared_judged(function, attribute):
+    """The head of what the wrapper calls, which is told where it was called."""
+    head = declared(function).replace('static ', f'static {attribute}').replace('JNICALL wrapped_', 'judged_')
+    return head[:-1].replace('...', 'va_list arguments') + ', uintptr_t at, uintptr_t frame)'
+
+
 def value_of(kind, name):
     """A value's bits, sign-extended; of float and double as they are."""
     return {'jfloat': f'bits_of_float({name})', 'jdouble': f'bits_of_double({name})'}.get(kind, name)
@@ -96,7 +108,7 @@ class Wrapper:
     def __init__(self, function, row, is_newer):
         self.function, self.row, self.is_newer = function, row, is_newer
         self.rest = list(function.parameters)
-        self.lines, self.id, self.start, self.list_form = [], None, None, False
+        self.lines, self.references, self.lengths, self.id, self.start, self.list_form = [], [], [], None, None, False
 
     def next(self):
         """The next parameter that is an operand: `isCopy` and room for an answer are none."""
@@ -116,6 +128,7 @@ class Wrapper:
     def reference(self, word):
         _, name = self.next()
         what = 'call_nullable' if word in NULLABLE else 'call_object'
+        self.references.append(name)
         self.lines.append(f'{name} = {what}(&call, {name});')
 
     def identity(self, word, what):
@@ -137,18 +150,19 @@ class Wrapper:
             self.lines.append(f'call_list(&call, {self.id}, {name});')
         else:
             self.list_form = True
-            self.lines.append('va_start(arguments, methodID);')
             self.lines.append(f'call_list(&call, {self.id}, arguments);')
 
     def operand(self, word, what):
         if word in PLAIN or word in NULLABLE:
             self.reference(word)
-        elif word in ('Field', 'AnyField', 'Method', 'Constructor', 'AnyMethod'):
+        elif word in IDS:
             self.identity(word, what)
         elif word == 'Arguments':
             self.arguments()
         elif word in ('Capacity', 'Length', 'Count', 'Mode'):
-            self.lines.append(f'call_number(&call, {self.next()[1]});')
+            _, name = self.next()
+            self.lengths += [name] * (word == 'Length')
+            self.lines.append(f'call_number(&call, {name});')
         elif word == 'Number':
             self.start = self.next()[1]
             self.lines.append(f'call_any(&call, {self.start});')
@@ -164,11 +178,16 @@ class Wrapper:
         else:
             sys.exit(f'{self.row.name}: no wrapper knows the operand {word}')
 
-    def made(self, form=''):
+    def made(self):
         """The machine's call."""
+        form = 'V' if self.list_form else ''
         names = [name if kind != '...' else 'arguments' for kind, name in self.function.parameters]
-        callee = machine(self.function, self.is_newer) + form
-        return f'{callee}({", ".join(["env", *names])})'
+        return f'{machine(self.function, self.is_newer)}{form}({", ".join(["env", *names])})'
+
+    def resulting(self):
+        """The same, as a statement that keeps its result."""
+        result = self.function.result
+        return f'{self.made()};' if result == 'void' else f'{result} result = {self.made()};'
 
     def noted(self):
         note = NOTES.get(self.row.name)
@@ -176,17 +195,9 @@ class Wrapper:
 
     def untouched(self):
         """The call of a library that isn't judged."""
-        result = self.function.result
-        if self.function.parameters[-1:] == [('...', '')]:
-            call = ['va_list arguments;', 'va_start(arguments, methodID);']
-            if result != 'void':
-                call += [f'{result} result = {self.made("V")};', 'va_end(arguments);', 'return result;']
-            else:
-                call += [f'{self.made("V")};', 'va_end(arguments);', 'return;']
-            return call
         if self.noted():
-            return [f'{result} result = {self.made()};', *self.noted(), 'return result;']
-        return [f'{self.made()};', 'return;'] if result == 'void' else [f'return {self.made()};']
+            return [self.resulting(), *self.noted(), 'return result;']
+        return [f'{self.made()};', 'return;'] if self.function.result == 'void' else [f'return {self.made()};']
 
     def returned(self):
         """What is told once the machine has answered."""
@@ -197,7 +208,7 @@ class Wrapper:
             return [f'return buffers_lend(&call, (void *)(uintptr_t)result, isCopy);']
         if result == 'void':
             return ['call_done(&call);']
-        if self.row.name in ('GetStringLength', 'GetArrayLength'):
+        if self.row.name in LENGTHS:
             return ['call_checks_length(&call, result);', 'call_done(&call);', 'return result;']
         if self.row.throws == 'Negative':
             return ['call_answers(&call, result);', 'return result;']
@@ -210,28 +221,88 @@ class Wrapper:
         negative = self.function.result == 'jint' and self.row.throws == 'Negative'
         return 'return JNI_ERR;' if negative or self.row.name == 'GetJavaVM' else 'return 0;'
 
+    # Leases.
+
+    def is_leased(self):
+        """Whether a question for the function may have a lease: the function ends nothing that is, and the words of its
+        references and IDs say all that the verdict depends on."""
+        takes = self.row.takes
+        words = [word for word, _ in takes if word in PLAIN | {'Nullable'} | IDS]
+        return (self.row.effect.name in ('Nothing', 'Hands') and self.row.takes_env and len(words) <= LEASED_WORDS and
+                ('Items', 'BOOLEAN') not in takes and all(word in BEYOND_WORDS or word in words for word, _ in takes))
+
+    def asked(self, caller):
+        words = [f'(uintptr_t){name}' for name in self.references + [self.id] * (self.id is not None)]
+        return (f'const struct asked asked = {{{caller}, JG_FN_{self.row.name}, {len(self.references)}, '
+                f'{{{", ".join(words) or "0"}}}}};')
+
+    def bounded(self):
+        """What of the numbers is looked at each time."""
+        return [*(f'{name} <= JNI_TRUE' for kind, name in self.function.parameters
+                  if kind == 'jboolean' and ('Value', 'BOOLEAN') in self.row.takes),
+                *(f'{name} >= 0' for name in self.lengths)]
+
+    def repeated(self):
+        """The call while its lease holds."""
+        done = 'return;' if self.function.result == 'void' else 'return result;'
+        made = [*self.begun(), self.resulting(), *self.ended(), *self.noted()]
+        yield self.asked('CALLER')
+        bounded, found = ' && '.join(self.bounded()), 'leases_find(&asked, env)'
+        yield f'const struct lease *lease = {f"{bounded} ? {found} : NULL" if bounded else found};'
+        yield 'if (lease != NULL) {'
+        if self.row.effect.name == 'Hands':
+            yield from ['struct call call;', 'call_repeats(&call, &asked, lease, env);', *made, *self.returned()]
+        elif self.row.throws != 'Never' or self.row.runs == 'Java':
+            yield from [*made, f'leases_made(JG_FN_{self.row.name}, env, CALLER);', done]
+        elif self.row.name in LENGTHS:
+            yield from [*made, 'if (leases_is_long(lease, result)) {', done, '}']
+        else:
+            yield from self.untouched()
+        yield '}'
+
+    # The wrapper and what it calls.
+
+    def begun(self):
+        return ['va_list arguments;', 'va_start(arguments, methodID);'] if self.list_form else []
+
+    def ended(self):
+        return ['va_end(arguments);'] if self.list_form else []
+
     def body(self):
+        """The call, with a question if its place is judged."""
+        is_leased = self.is_leased()
         for word, what in self.row.takes:
             self.operand(word, what)
-        form = 'V' if self.list_form else ''
-        result = self.function.result
         yield 'struct call call;'
-        yield f'if (!call_begins(&call, JG_FN_{self.row.name}, env, CALLER)) {{'
+        yield f'if (!call_begins(&call, JG_FN_{self.row.name}, env, at, frame)) {{'
         yield from self.untouched()
         yield '}'
-        if self.list_form:
-            yield 'va_list arguments;'
+        if is_leased:
+            yield self.asked('at, frame')
+            yield 'const uint64_t sum = leases_sum(call.thread, &asked);'
         yield from self.lines
         yield 'if (!call_passes(&call)) {'
-        if self.list_form:
-            yield 'va_end(arguments);'
         yield self.refused()
         yield '}'
-        yield f'{self.made(form)};' if result == 'void' else f'{result} result = {self.made(form)};'
-        if self.list_form:
-            yield 'va_end(arguments);'
+        if is_leased:
+            yield 'leases_take(&call, &asked, sum);'
+        yield self.resulting()
         yield from self.noted()
         yield from self.returned()
+
+    def wrapped(self):
+        names = [name if kind != '...' else 'arguments' for kind, name in self.function.parameters]
+        call = f'judged_{self.function.name}({", ".join(["env", *names, "CALLER"])});'
+        if self.is_leased():
+            yield from self.repeated()
+        yield from self.begun()
+        if self.function.result == 'void':
+            yield call
+        else:
+            yield f'{self.function.result} result = {call}' if self.list_form else f'return {call}'
+        yield from self.ended()
+        if self.list_form and self.function.result != 'void':
+            yield 'return result;'
 
     def released(self):
         """A release: the machine gets its own memory back, not the copy that was lent."""
@@ -251,13 +322,21 @@ class Wrapper:
         yield 'buffers_gave(&given);'
 
     def text(self):
-        lines = self.released() if self.row.effect.name == 'GivesBack' else self.body()
-        depth, out = 1, [declared(self.function) + ' {']
-        for line in lines:
-            depth -= line.startswith('}')
-            out.append('    ' * depth + line)
-            depth += line.endswith('{')
-        return '\n'.join(out + ['}', ''])
+        if self.row.effect.name == 'GivesBack':
+            return laid_out(declared(self.function), self.released())
+        attribute = '__attribute__((noinline)) ' if self.is_leased() else ''
+        judged = laid_out(declared_judged(self.function, attribute), self.body())
+        return judged + '\n' + laid_out(declared(self.function), self.wrapped())
+
+
+def laid_out(head, lines):
+    """A function with this head and these lines."""
+    depth, out = 1, [head + ' {']
+    for line in lines:
+        depth -= line.startswith('}')
+        out.append('    ' * depth + line)
+        depth += line.endswith('{')
+    return '\n'.join(out + ['}', ''])
 
 
 # ---- the file

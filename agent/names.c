@@ -8,6 +8,7 @@
  */
 #include "names.h"
 #include "forks.h"
+#include "leases.h"
 #include "objects.h"
 #include "spin.h"
 
@@ -106,16 +107,24 @@ int names_find(uintptr_t handle, struct name *found) {
     return is_there;
 }
 
-int names_put(const struct name *name, struct name *before) {
-    struct part *part = part_of(name->handle);
+/* The place of the handle's name, or an empty one for it. */
+static struct name *place_for(struct part *part, uintptr_t handle) {
     if (2 * (part->count + 1) > part->room) {
         resize(part, part->room ? 2 * part->room : FEWEST_PLACES);
     }
-    struct name *place = place_of(part, name->handle);
+    return place_of(part, handle);
+}
+
+int names_put(const struct name *name, struct name *before) {
+    struct part *part = part_of(name->handle);
+    struct name *place = place_for(part, name->handle);
     struct object *object = place->handle ? place->object : NULL;
     int was_live = place->handle != 0 && place->state == NAME_LIVE;
     part->count += place->handle == 0;
     *before = *place;
+    if (was_live) {
+        leases_end_name(before);
+    }
     *place = *name;
     place->is_in_ring = before->handle != 0 && before->is_in_ring;
     objects_hold(name->object);
@@ -130,6 +139,9 @@ void names_forget(uintptr_t handle) {
     struct object *object = NULL;
     if (place != NULL && place->handle == handle) {
         object = place->object;
+        if (place->state == NAME_LIVE) {
+            leases_end_name(place);
+        }
         remove_name(part, place);
     }
     spin_unlock(&part->lock);
@@ -184,11 +196,25 @@ static struct object *make_dead(struct part *part, struct name *name) {
     return object;
 }
 
+void names_put_ended(const struct name *name) {
+    struct part *part = part_of(name->handle);
+    struct name *place = place_for(part, name->handle);
+    if (place->handle == 0 || place->state == NAME_DEAD) {
+        uint8_t is_in_ring = place->handle != 0 && place->is_in_ring;
+        part->count += place->handle == 0;
+        *place = *name;
+        place->is_in_ring = is_in_ring;
+        make_dead(part, place);
+    }
+    spin_unlock(&part->lock);
+}
+
 int names_end(uintptr_t handle, uint64_t number, enum state state, uint16_t by, const struct site *site) {
     struct part *part = part_of(handle);
     struct name *name = name_of(part, handle, number, NAME_LIVE);
     struct object *object = NULL;
     if (name != NULL) {
+        leases_end_name(name);
         name->ended = site;
         name->ended_by = by;
         name->state = (uint8_t)state;

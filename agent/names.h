@@ -20,6 +20,9 @@ enum state {
  */
 enum { MADE_UNSEEN = UINT16_MAX };
 
+/* In the place of the function that ended one: whether it ended isn't known. */
+enum { ENDED_PERHAPS = UINT16_MAX - 1 };
+
 struct name {
     uintptr_t handle;
     jg_value name;
@@ -39,6 +42,9 @@ int names_find(uintptr_t handle, struct name *found);
 
 /* The handle has this name from now on. It holds the object. Whether it had a live name before, which is written. */
 int names_put(const struct name *name, struct name *before);
+
+/* The handle has this name, which has ended, unless it has one that hasn't: then that stays. */
+void names_put_ended(const struct name *name);
 
 /* Nothing is known of the handle any longer. */
 void names_forget(uintptr_t handle);

@@ -1,9 +1,14 @@
 /*
- * natives.c: native methods. Round each stands a stub, which tells that the method begins and ends.
+ * natives.c: native methods. Round each stands a stub, which notes that the method begins and ends.
  *
- * What method it is is asked at its first run: methods that are bound early have no name yet. A method of a judged
- * library is told at once, with its arguments. A method of another one is only noted: the core is told of it when
- * judged code makes a call in it, as JNI_OnLoad does in the JDK's own method that loads a library.
+ * What method it is is asked at its first run: methods that are bound early have no name yet. A method is only noted
+ * when it begins. Of a method of a judged library the core is told at the first call in it, with its arguments; until
+ * then it is quiet. With a record or with advice, and where its return may break a rule, it is told at once. Of a
+ * method of another library the core is told when judged code makes a call in it, as JNI_OnLoad does in the JDK's own
+ * method that loads a library.
+ *
+ * Where a quiet method returns, the core was told nothing of it. Its arguments are remembered for a while: one that is
+ * used later is told then, as one that ended.
  */
 #include "natives.h"
 #include "calls.h"
@@ -32,6 +37,9 @@ void jg_native_leaves(struct native *native, uint64_t *results, uintptr_t frame)
 
 /* Until a method's type is known so many words are copied: more arguments have none of the methods bound that early. */
 enum { LIKELY_WORDS = 16, LOADS = 1, UNLOADS = 2 };
+
+/* How far below its frame a stub saves the registers (stubs.S). */
+enum { SAVED = 128 };
 
 static pthread_mutex_t lock = PTHREAD_MUTEX_INITIALIZER;
 
@@ -343,6 +351,10 @@ static void read_type(struct native *native, const char *type) {
     }
     native->words = words;
     native->count = (uint32_t)strlen(native->types);
+    native->references = 0;
+    for (const char *letter = native->types; *letter != 0; letter++) {
+        native->references += *letter == 'L';
+    }
 }
 
 /* Whether the JDK loads or unloads libraries by the method. */
@@ -379,13 +391,36 @@ static void describe(struct native *native, JNIEnv *env) {
 
 /* ---- entering ---- */
 
+enum { MOST_ARGUMENTS = 256, FEW_ARGUMENTS = 8 };
+
+/*
+ * Finds the arguments that are references, the receiver or the class first, and none that is NULL. They stand where the
+ * stub saved the registers, and above its frame. How many there are.
+ */
+static size_t find_arguments(const struct native *native, uintptr_t frame, jobject *found) {
+    const uint64_t *registers = (const uint64_t *)(frame - SAVED), *stack = (const uint64_t *)(frame + 16);
+    uint32_t integers = 2, floats = 0;
+    size_t count = 1;
+    found[0] = (jobject)(uintptr_t)registers[1];
+    for (const char *letter = native->types; letter != NULL && *letter != 0; letter++) {
+        if (*letter == 'F' || *letter == 'D') {
+            stack += ++floats > 8;
+            continue;
+        }
+        uint64_t value = integers < 6 ? registers[integers] : *stack;
+        stack += integers++ >= 6;
+        if (*letter == 'L' && value != 0) {
+            found[count++] = (jobject)(uintptr_t)value;
+        }
+    }
+    return count;
+}
+
 /* An argument that is a reference, and its object. */
 struct argument {
     jobject handle;
     struct object *object;
 };
-
-enum { MOST_ARGUMENTS = 256, FEW_ARGUMENTS = 8 };
 
 /* The receiver, or the class of a static method: the same at each call. */
 static struct object *receiver_of(struct native *native, JNIEnv *env, jobject handle) {
@@ -396,31 +431,6 @@ static struct object *receiver_of(struct native *native, JNIEnv *env, jobject ha
         native->class = objects_of(env, handle);
     }
     return native->class;
-}
-
-/* Finds the arguments that are references. How many there are. */
-static size_t find_arguments(struct native *native, const uint64_t *registers, uintptr_t frame,
-                             struct argument *found) {
-    const uint64_t *stack = (const uint64_t *)(frame + 16);
-    JNIEnv *env = (JNIEnv *)(uintptr_t)registers[0];
-    uint32_t integers = 2, floats = 0;
-    size_t count = 1;
-    found[0].handle = (jobject)(uintptr_t)registers[1];
-    found[0].object = receiver_of(native, env, found[0].handle);
-    for (const char *letter = native->types; letter != NULL && *letter != 0; letter++) {
-        if (*letter == 'F' || *letter == 'D') {
-            stack += ++floats > 8;
-            continue;
-        }
-        uint64_t value = integers < 6 ? registers[integers] : *stack;
-        stack += integers++ >= 6;
-        if (*letter == 'L' && value != 0) {
-            found[count].handle = (jobject)(uintptr_t)value;
-            found[count].object = objects_of(env, found[count].handle);
-            count++;
-        }
-    }
-    return count;
 }
 
 /* The method is handed a local reference to the argument. Between core_lock and core_unlock. */
@@ -438,30 +448,178 @@ static void tell_argument(struct thread *thread, const struct argument *argument
     if (names_put(&made, &before)) {
         core_tell(jg_fact_of(JG_LOST, thread->number, before.name, jg_null(), 0, 0), NULL);
     }
+    /* The handle was perhaps another quiet method's before. */
+    struct unheard *unheard = threads_unheard(thread, made.handle);
+    if (unheard->handle == made.handle) {
+        unheard->handle = 0;
+    }
 }
 
-/* A method of a judged library begins. */
-static void tell_entered(struct thread *thread, struct native *native, const uint64_t *registers, uintptr_t frame) {
-    struct argument few[FEW_ARGUMENTS], *arguments = few;
-    if (!threads_attach(thread)) {
-        return;
+/* Tells that the method began, and what it was handed. */
+static void tell_arguments(struct thread *thread, struct activation *activation, struct argument *arguments,
+                           jobject *handles) {
+    struct native *native = activation->native;
+    JNIEnv *env = *(JNIEnv *const *)(activation->stack - SAVED);
+    size_t count = find_arguments(native, activation->stack, handles);
+    for (size_t at = 0; at < count; at++) {
+        arguments[at].handle = handles[at];
+        arguments[at].object = at == 0 ? receiver_of(native, env, handles[at]) : objects_of(env, handles[at]);
     }
-    threads_own_again(thread);
-    if (native->count >= FEW_ARGUMENTS) {
-        arguments = must_make(MOST_ARGUMENTS * sizeof *arguments);
-    }
-    size_t count = find_arguments(native, registers, frame, arguments);
     core_lock();
     if (objects_are_gone()) {
         objects_tell_gone();
     }
-    threads_tell_enter(thread);
+    threads_tell_enter(thread, activation);
     for (size_t at = 0; at < count; at++) {
         tell_argument(thread, &arguments[at], native);
     }
     core_unlock();
-    if (arguments != few) {
-        free(arguments);
+}
+
+/* A method of a judged library began. The core knows those that it stands in. */
+static void tell_entered(struct thread *thread, struct activation *activation) {
+    if (!threads_attach(thread)) {
+        return;
+    }
+    threads_own_again(thread);
+    if (activation->native->count < FEW_ARGUMENTS) {
+        struct argument arguments[FEW_ARGUMENTS];
+        jobject handles[FEW_ARGUMENTS];
+        tell_arguments(thread, activation, arguments, handles);
+        return;
+    }
+    struct argument *arguments = must_make(MOST_ARGUMENTS * sizeof *arguments);
+    jobject *handles = must_make(MOST_ARGUMENTS * sizeof *handles);
+    tell_arguments(thread, activation, arguments, handles);
+    free(arguments);
+    free(handles);
+}
+
+/* ---- quiet methods ---- */
+
+/* What stands on the way of each call of a native method is in a few instructions. The rest is elsewhere. */
+#define ASIDE __attribute__((noinline))
+
+/*
+ * Whether a judged method may be quiet in the thread. If no call is made in it nothing else comes of it: one that
+ * returns no reference may return, unless the thread is in a critical region.
+ */
+static inline int may_be_quiet(const struct thread *thread) {
+    return is_live && !core_hears_all && thread->is_attached && !thread->is_pending &&
+           thread->critical_count == 0 && thread->waiting.object == NULL;
+}
+
+/* Whether the method's beginning need only be noted. */
+static inline int may_be_noted(const struct thread *thread, const struct native *native, uintptr_t frame) {
+    return __atomic_load_n(&native->is_described, __ATOMIC_ACQUIRE) && !native->loads &&
+           (thread->depth == 0 || thread->activations[thread->depth - 1].stack > frame) &&
+           (!native->is_judged || may_be_quiet(thread));
+}
+
+static inline void remember(struct thread *thread, uintptr_t handle, const struct site *site) {
+    struct unheard *place = threads_unheard(thread, handle);
+    atomic_store_explicit(&place->handle, 0, memory_order_relaxed);
+    atomic_store_explicit(&place->site, site, memory_order_release);
+    atomic_store_explicit(&place->handle, handle, memory_order_release);
+}
+
+static ASIDE void remember_all(struct thread *thread, const struct native *native, uintptr_t frame) {
+    jobject handles[MOST_ARGUMENTS];
+    size_t count = find_arguments(native, frame, handles);
+    for (size_t at = 0; at < count; at++) {
+        remember(thread, address_of(handles[at]), native->site);
+    }
+}
+
+static inline void note(struct thread *thread, struct native *native, const uint64_t *registers, uintptr_t frame) {
+    threads_enter(thread, native, frame, native->is_judged);
+    if (native->is_judged) {
+        if (native->references == 0) {
+            remember(thread, (uintptr_t)registers[1], native->site);
+        } else {
+            remember_all(thread, native, frame);
+        }
+    }
+}
+
+/* Whether no reference is returned. Such a method may return, but in a critical region. */
+static inline int returns_nothing(const struct native *native, const uint64_t *results) {
+    return native->result != 'L' || *results == 0;
+}
+
+/*
+ * A method returns. Whether that need only be noted, and is: of what the core wasn't told it isn't told the return. But
+ * a reference that a judged method returns is judged.
+ */
+static inline int notes_return(struct thread *thread, const struct native *native, const uint64_t *results,
+                               uintptr_t frame) {
+    if (thread->depth == 0) {
+        return 0;
+    }
+    const struct activation *newest = &thread->activations[thread->depth - 1];
+    if (newest->stack != frame || newest->is_told || native->loads ||
+        (newest->is_quiet && !returns_nothing(native, results))) {
+        return 0;
+    }
+    threads_count_passed(thread, newest->is_quiet && is_live);
+    thread->depth--;
+    return 1;
+}
+
+void natives_tell_quiet(struct thread *thread) {
+    size_t at = thread->depth;
+    while (at > 0 && !thread->activations[at - 1].is_told) {
+        at--;
+    }
+    for (; at < thread->depth && is_live; at++) {
+        struct activation *activation = &thread->activations[at];
+        if (activation->is_quiet) {
+            activation->is_quiet = 0;
+            tell_entered(thread, activation);
+        }
+    }
+}
+
+/* ---- arguments of quiet methods ---- */
+
+/*
+ * Tells that the thread of this number had a local reference, and that it ended; and names the handle so. There is no
+ * record then, and no advice. The thread's session may have ended meanwhile: then nothing is told. What object it was
+ * isn't known any more, and no rule asks of a reference that ended: the class of all objects stands for it.
+ */
+static int name_unheard(uintptr_t handle, const struct site *site, uint32_t number, int is_own) {
+    jg_value given = jg_nothing(), unwanted;
+    jg_fact got = jg_fact_of(JG_GOT, number, jg_nothing(), jg_object(0), JG_LOCAL, 0);
+    core_lock();
+    int32_t error = jg_tell(&core, &got, &given);
+    if (error == 0) {
+        jg_fact lost = jg_fact_of(JG_LOST, number, given, jg_null(), 0, 0);
+        error = jg_tell(&core, &lost, &unwanted);
+        core_facts++;
+    }
+    core_unlock();
+    struct name ended = {.handle = handle, .name = given, .made = site, .made_by = JG_FN_NativeEnter};
+    ended.ended = is_own ? site : NULL;
+    ended.ended_by = is_own ? JG_FN_NativeLeave : ENDED_PERHAPS;
+    if (error == 0) {
+        /* The thread that has it may have told it meanwhile. */
+        names_put_ended(&ended);
+    }
+    return error == 0;
+}
+
+int natives_name_unheard(struct thread *thread, jobject handle) {
+    uint32_t number = 0;
+    const struct site *site = threads_take_unheard(thread, address_of(handle), &number);
+    return site != NULL && name_unheard(address_of(handle), site, number, number == thread->number);
+}
+
+void natives_tell_unheard(struct thread *thread) {
+    for (size_t at = 0; at < UNHEARD; at++) {
+        uintptr_t handle = thread->unheard[at].handle;
+        if (handle != 0) {
+            natives_name_unheard(thread, (jobject)handle);
+        }
     }
 }
 
@@ -504,6 +662,8 @@ static int may_load(struct thread *thread, const struct native *native, const ui
     return passes;
 }
 
+/* ---- the stub ---- */
+
 static struct entry enter(struct native *native, const uint64_t *registers, uintptr_t frame) {
     struct thread *thread = threads_self();
     if (!__atomic_load_n(&native->is_described, __ATOMIC_ACQUIRE)) {
@@ -511,17 +671,21 @@ static struct entry enter(struct native *native, const uint64_t *registers, uint
     }
     threads_unwind(thread, frame);
     if (native->loads == LOADS && !may_load(thread, native, registers)) {
-        threads_enter(thread, native, frame);
+        threads_enter(thread, native, frame, 0);
         return (struct entry){NULL, 0};
     }
-    threads_enter(thread, native, frame);
-    if (native->is_judged && is_live) {
-        tell_entered(thread, native, registers, frame);
+    if (may_be_noted(thread, native, frame)) {
+        note(thread, native, registers, frame);
+        return (struct entry){native->target, native->words};
+    }
+    threads_enter(thread, native, frame, native->is_judged && is_live);
+    if (native->is_judged) {
+        natives_tell_quiet(thread);
     }
     return (struct entry){native->target, native->words};
 }
 
-struct entry jg_native_enters(struct native *native, const uint64_t *registers, uintptr_t frame) {
+static ASIDE struct entry enter_aside(struct native *native, const uint64_t *registers, uintptr_t frame) {
     struct kept kept;
     keep(&kept);
     struct entry entry = enter(native, registers, frame);
@@ -529,11 +693,30 @@ struct entry jg_native_enters(struct native *native, const uint64_t *registers, 
     return entry;
 }
 
+struct entry jg_native_enters(struct native *native, const uint64_t *registers, uintptr_t frame) {
+    struct thread *thread = threads_known();
+    if (thread == NULL || !may_be_noted(thread, native, frame)) {
+        return enter_aside(native, registers, frame);
+    }
+    note(thread, native, registers, frame);
+    return (struct entry){native->target, native->words};
+}
+
 /* ---- leaving ---- */
 
 /* Tells that the newest native method is left. Between core_lock and core_unlock. */
 static void tell_left(struct thread *thread) {
     core_tell(jg_fact_of(JG_LEAVES, thread->number, jg_nothing(), jg_null(), 0, 0), NULL);
+}
+
+/* A method returns of which nothing need be asked. */
+static void leave_unasked(struct thread *thread) {
+    core_lock();
+    if (objects_are_gone()) {
+        objects_tell_gone();
+    }
+    tell_left(thread);
+    core_unlock();
 }
 
 /*
@@ -566,17 +749,22 @@ static void leave_judged(struct thread *thread, const struct native *native, uin
 static void leave(const struct native *native, uint64_t *results, uintptr_t frame) {
     struct thread *thread = threads_self();
     threads_unwind(thread, frame - 1);
-    if (thread->depth == 0 || thread->activations[thread->depth - 1].stack != frame) {
+    const struct activation *newest = thread->depth > 0 ? &thread->activations[thread->depth - 1] : NULL;
+    if (newest == NULL || newest->stack != frame || notes_return(thread, native, results, frame)) {
         return;
     }
-    if (thread->activations[thread->depth - 1].is_told && is_live) {
+    if (newest->is_quiet) {
+        natives_tell_quiet(thread);
+    }
+    if (newest->is_told && is_live) {
         threads_own_again(thread);
-        if (native->is_judged) {
-            leave_judged(thread, native, results);
+        if (!native->is_judged) {
+            leave_unasked(thread);
+        } else if (returns_nothing(native, results) && thread->critical_count == 0 && !core_hears_all) {
+            threads_count_passed(thread, 1);
+            leave_unasked(thread);
         } else {
-            core_lock();
-            tell_left(thread);
-            core_unlock();
+            leave_judged(thread, native, results);
         }
     }
     threads_leave(thread);
@@ -585,11 +773,18 @@ static void leave(const struct native *native, uint64_t *results, uintptr_t fram
     }
 }
 
-void jg_native_leaves(struct native *native, uint64_t *results, uintptr_t frame) {
+static ASIDE void leave_aside(const struct native *native, uint64_t *results, uintptr_t frame) {
     struct kept kept;
     keep(&kept);
     leave(native, results, frame);
     restore(&kept);
+}
+
+void jg_native_leaves(struct native *native, uint64_t *results, uintptr_t frame) {
+    struct thread *thread = threads_known();
+    if (thread == NULL || !notes_return(thread, native, results, frame)) {
+        leave_aside(native, results, frame);
+    }
 }
 
 /* ---- registration ---- */

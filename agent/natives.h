@@ -1,5 +1,5 @@
 /*
- * natives.h: native methods. Round each stands a stub, which tells that the method begins and ends.
+ * natives.h: native methods. Round each stands a stub, which notes that the method begins and ends.
  */
 #ifndef NATIVES_H
 #define NATIVES_H
@@ -8,6 +8,7 @@
 
 struct object;
 struct site;
+struct thread;
 
 /* A native method's function, and its stub. */
 struct native {
@@ -18,6 +19,7 @@ struct native {
     const struct site *site; /* the function's place */
     char *types;             /* a letter for each argument; L is any reference */
     uint32_t count;          /* how many arguments it has */
+    uint32_t references;     /* and how many of these are references */
     char result;
     uint8_t is_judged;
     uint8_t is_static;
@@ -38,6 +40,21 @@ static inline int natives_are_seen(void) {
 /* The machine binds a native method: a stub takes its place. */
 void JNICALL natives_bound(jvmtiEnv *tool, JNIEnv *env, jthread thread, jmethodID method, void *address,
                            void **replaced);
+
+/*
+ * Tells the core of the quiet methods that the thread is in, from the outermost on. A method of a judged library is
+ * quiet until something is done in it that the core must hear of.
+ */
+void natives_tell_quiet(struct thread *thread);
+
+/*
+ * A use of this handle: where it is an argument of a quiet method which returned, or which another thread is in, the
+ * core is told of it, and it has a name from then on. Whether it is.
+ */
+int natives_name_unheard(struct thread *thread, jobject handle);
+
+/* The same of all that the thread has left, before its session ends. */
+void natives_tell_unheard(struct thread *thread);
 
 /* Calls the function for the place of each. */
 void natives_each_site(void (*see)(const struct site *site));

@@ -21,6 +21,10 @@ static uint32_t bytes_of(const struct object *object) {
 /* The deletion of a library that isn't judged: of a reference that has a name, its end is told. */
 static void delete_unjudged(JNIEnv *env, uint32_t kind, jobject handle, uint16_t function, uintptr_t at) {
     struct name known;
+    struct thread *thread = threads_known();
+    if (thread != NULL && threads_has_on_stack(thread, address_of(handle))) {
+        natives_tell_quiet(thread);
+    }
     int is_known = handle != NULL && names_find(address_of(handle), &known);
     if (is_known && known.state == NAME_LIVE) {
         core_lock();
@@ -142,6 +146,7 @@ static int is_untold(const struct thread *thread) {
 
 /* A library that isn't judged pushed a frame. */
 static void push_unjudged(struct thread *thread) {
+    natives_tell_quiet(thread);
     if (is_untold(thread)) {
         thread->activations[thread->depth - 1].pushed++;
     } else if (!thread->is_attached) {
@@ -199,6 +204,9 @@ static void pop_unjudged(uintptr_t at) {
     struct kept kept;
     keep(&kept);
     struct thread *thread = threads_known();
+    if (thread != NULL) {
+        natives_tell_quiet(thread);
+    }
     if (thread != NULL && is_untold(thread)) {
         struct activation *newest = &thread->activations[thread->depth - 1];
         newest->pushed -= newest->pushed > 0;

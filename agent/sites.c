@@ -42,7 +42,8 @@ static size_t place_count, place_room;
 
 /* All sites, in a hash table of lists by their libraries and offsets. */
 static struct site **lists, *free_sites;
-static size_t list_count, site_count;
+static size_t list_count;
+static _Atomic size_t site_count; /* it is changed under the lock */
 
 static char *jdk_home;
 static uintptr_t own_base, machine_base;
@@ -576,11 +577,12 @@ static void sweep(void) {
     }
     sites_check_unloaded();
     mark_loaded();
+    /* What threads remember may become a name meanwhile, so they come first. */
+    threads_each_site(sites_mark);
     names_each_site(sites_mark);
     natives_each_site(sites_mark);
     buffers_each_site(sites_mark);
     monitors_each_site(sites_mark);
-    threads_each_site(sites_mark);
     report_each_site(sites_mark);
     pthread_mutex_lock(&lock);
     if (readers == 0) {

@@ -13,8 +13,12 @@
     .hidden jg_native_leaves
     .type jg_stub, @function
 
-    /* Where the saved registers are: six for integers, then eight for floating point. */
+    /*
+     * Where the saved registers are: six for integers, then eight for floating point. Those for integers stay as they
+     * were until the method has returned (SAVED of natives.c). What it returns stands where the others were.
+     */
     .set SAVED, -128
+    .set RESULT, SAVED+48
 
 jg_stub:
     .cfi_startproc
@@ -85,14 +89,14 @@ jg_stub:
 .Lreturned:
     /* void jg_native_leaves(native, results, frame) */
     leaq SAVED(%rbp), %rsp
-    movq %rax, SAVED+0(%rbp)
-    movsd %xmm0, SAVED+8(%rbp)
+    movq %rax, RESULT+0(%rbp)
+    movsd %xmm0, RESULT+8(%rbp)
     movq %r12, %rdi
-    leaq SAVED(%rbp), %rsi
+    leaq RESULT(%rbp), %rsi
     movq %rbp, %rdx
     call jg_native_leaves
-    movq SAVED+0(%rbp), %rax
-    movsd SAVED+8(%rbp), %xmm0
+    movq RESULT+0(%rbp), %rax
+    movsd RESULT+8(%rbp), %xmm0
     addq $112, %rsp
     popq %r12
     popq %rbx

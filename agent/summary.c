@@ -112,7 +112,7 @@ static void gather_leaks(struct summary *summary, const struct leaks *leaks) {
 }
 
 void summary_gather(struct summary *summary, const struct leaks *leaks) {
-    *summary = (struct summary){.judged = counts.asked + threads_repeated(), .denied = counts.denied};
+    *summary = (struct summary){.judged = counts.asked + threads_passed(), .denied = counts.denied};
     if (options.lists_leaks) {
         gather_leaks(summary, leaks);
     }

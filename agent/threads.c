@@ -27,7 +27,7 @@ static struct thread *threads;
 static uint32_t greatest_number; /* that was ever taken */
 static uint32_t *free_numbers;   /* those up to it that are free */
 static size_t free_count, free_room;
-static uint64_t repeated; /* of threads that ended */
+static uint64_t passed; /* of threads that ended: questions that passed without the core being asked */
 static pthread_key_t ending;
 static pthread_once_t once = PTHREAD_ONCE_INIT;
 __thread struct thread *threads_current __attribute__((tls_model("initial-exec")));
@@ -113,7 +113,7 @@ static void let_go(void *which) {
     if (thread->next != NULL) {
         thread->next->before = thread->before;
     }
-    repeated += thread->repeated;
+    passed += thread->passed;
     give_number(thread);
     pthread_mutex_unlock(&lock);
     forget_held(thread);
@@ -127,11 +127,11 @@ static void let_go(void *which) {
     threads_current = NULL;
 }
 
-uint64_t threads_repeated(void) {
+uint64_t threads_passed(void) {
     pthread_mutex_lock(&lock);
-    uint64_t count = repeated;
+    uint64_t count = passed;
     for (const struct thread *it = threads; it != NULL; it = it->next) {
-        count += it->repeated;
+        count += it->passed;
     }
     pthread_mutex_unlock(&lock);
     return count;
@@ -141,6 +141,9 @@ void threads_each_site(void (*see)(const struct site *site)) {
     pthread_mutex_lock(&lock);
     for (const struct thread *it = threads; it != NULL; it = it->next) {
         see(it->thrower.site);
+        for (size_t at = 0; at < UNHEARD; at++) {
+            see(it->unheard[at].site);
+        }
     }
     pthread_mutex_unlock(&lock);
 }
@@ -276,10 +279,32 @@ int threads_has_pushed(const struct thread *thread) {
 
 /* ---- native methods ---- */
 
-void threads_enter(struct thread *thread, const struct native *native, uintptr_t stack) {
+void threads_make_room(struct thread *thread) {
     MAKE_ROOM(thread->activations, thread->depth, thread->activation_room);
-    thread->activations[thread->depth++] = (struct activation){stack, native, 0, 0, 0};
-    thread->last_library = NULL;
+}
+
+/* Takes the argument of this handle out, if it is there. The place of its method, or NULL. */
+static const struct site *take_unheard(struct thread *of, uintptr_t handle) {
+    struct unheard *place = threads_unheard(of, handle);
+    const struct site *site = place->site;
+    return atomic_compare_exchange_strong(&place->handle, &handle, 0) ? site : NULL;
+}
+
+const struct site *threads_take_unheard(struct thread *thread, uintptr_t handle, uint32_t *number) {
+    const struct site *site = NULL;
+    if (threads_has_on_stack(thread, handle)) {
+        *number = thread->number;
+        return take_unheard(thread, handle);
+    }
+    pthread_mutex_lock(&lock);
+    for (struct thread *of = threads; of != NULL && site == NULL; of = of->next) {
+        if (threads_has_on_stack(of, handle)) {
+            *number = of->number;
+            site = take_unheard(of, handle);
+        }
+    }
+    pthread_mutex_unlock(&lock);
+    return site;
 }
 
 /* Tells frames that were pushed before what they stand in was told. Between core_lock and core_unlock. */
@@ -290,17 +315,16 @@ static void tell_pushed(struct thread *thread, uint32_t *pushed) {
     }
 }
 
-void threads_tell_enter(struct thread *thread) {
-    struct activation *newest = &thread->activations[thread->depth - 1];
+void threads_tell_enter(struct thread *thread, struct activation *activation) {
     if (core_tell(jg_fact_of(JG_ENTERS, thread->number, jg_nothing(), jg_null(), 0, 0), NULL) < 0) {
         return;
     }
-    newest->is_told = 1;
+    activation->is_told = 1;
     thread->is_unsure = 1;
-    newest->first_frame = thread->frame_count;
+    activation->first_frame = thread->frame_count;
     thread->is_pending = 0;
     threads_push(thread);
-    tell_pushed(thread, &newest->pushed);
+    tell_pushed(thread, &activation->pushed);
 }
 
 /* Whether no Java code runs in the thread: it began in native code, and is there. */
@@ -399,6 +423,7 @@ void threads_go_on(void) {
 }
 
 static void end_session(struct thread *thread) {
+    natives_tell_unheard(thread);
     core_lock();
     core_tell(jg_fact_of(JG_ENDS, thread->number, jg_nothing(), jg_null(), 0, 0), NULL);
     core_unlock();
@@ -407,6 +432,7 @@ static void end_session(struct thread *thread) {
     }
     for (size_t at = 0; at < thread->depth; at++) {
         thread->activations[at].is_told = 0;
+        thread->activations[at].is_quiet = 0;
     }
     buffers_thread_ended(thread);
     monitors_thread_ended(thread);
@@ -480,9 +506,11 @@ void threads_catch_up(struct thread *thread, JNIEnv *env, uintptr_t stack) {
     if (!threads_attach(thread)) {
         return;
     }
-    if (thread->depth > 0 && !thread->activations[thread->depth - 1].is_told) {
+    natives_tell_quiet(thread);
+    struct activation *newest = thread->depth > 0 ? &thread->activations[thread->depth - 1] : NULL;
+    if (newest != NULL && !newest->is_told) {
         core_lock();
-        threads_tell_enter(thread);
+        threads_tell_enter(thread, newest);
         core_unlock();
     }
     threads_own_again(thread);
@@ -493,11 +521,6 @@ void threads_catch_up(struct thread *thread, JNIEnv *env, uintptr_t stack) {
 }
 
 /* ---- what is held back ---- */
-
-/* An argument of a native method is a place on the stack, which the machine uses for other things later. */
-static int is_on_stack(const struct thread *thread, uintptr_t handle) {
-    return handle >= thread->stack_low && handle < thread->stack_high;
-}
 
 static void forget_held(struct thread *thread) {
     for (size_t at = 0; at < thread->held_count; at++) {
@@ -540,7 +563,8 @@ static void give_oldest(struct thread *thread, JNIEnv *env) {
 
 int threads_hold_local(struct thread *thread, JNIEnv *env, const struct held_local *local) {
     struct frame *frame = frame_of(thread, local->frame);
-    if (!quarantine_takes(local->bytes) || frame == NULL || is_on_stack(thread, local->handle)) {
+    /* An argument of a native method is a place on the stack, which the machine uses for other things later. */
+    if (!quarantine_takes(local->bytes) || frame == NULL || threads_has_on_stack(thread, local->handle)) {
         return 0;
     }
     if (thread->held == NULL) {

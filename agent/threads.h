@@ -8,6 +8,8 @@
 #include "natives.h"
 #include "sites.h"
 
+#include <stdatomic.h>
+
 struct call;
 
 enum { RECENT_SITES = 64 };
@@ -37,10 +39,20 @@ struct frame {
 /* A native method that the thread is in. The core is told of it at the first judged call in it. */
 struct activation {
     uintptr_t stack; /* where its stub's frame is */
-    const struct native *native;
+    struct native *native;
     size_t first_frame; /* of the frames that were told, its base */
     uint32_t pushed;    /* frames that were pushed before it was told */
-    int is_told;
+    uint8_t is_told;
+    uint8_t is_quiet; /* of judged code: it made no call yet, and what it was handed is told with it */
+};
+
+/*
+ * An argument of a native method that was quiet when it returned, or is. The core doesn't know it: it is told when it
+ * is used after that, or by another thread. Other threads read it.
+ */
+struct unheard {
+    _Atomic uintptr_t handle;
+    const struct site *_Atomic site; /* of the method */
 };
 
 /* A local reference that ended and wasn't given back to the machine yet. */
@@ -70,7 +82,7 @@ struct environment {
     jg_value name;
 };
 
-enum { MEMOS = 16, MEMO_OPERANDS = 3, EARLIER = 4 };
+enum { MEMOS = 16, MEMO_OPERANDS = 3, EARLIER = 4, UNHEARD = 512 };
 
 /* A question that passed, and how many facts had been told then. */
 struct memo {
@@ -80,6 +92,18 @@ struct memo {
     jg_value env_name;
     jg_value operands[MEMO_OPERANDS];
     jg_ticket ticket;
+};
+
+enum { LEASE_BITS = 7, LEASES = 1 << LEASE_BITS, LEASED_WORDS = 3, LOCAL_WORDS = 64 };
+
+/* A question that passed, and passes still while the sum is the same (leases.h). */
+struct lease {
+    uintptr_t at; /* the return address of its wrapper; 0: none */
+    uint64_t sum;
+    uintptr_t words[LEASED_WORDS];
+    const struct library *library;
+    struct object *object; /* that its first operand names */
+    uint32_t function;
 };
 
 struct thread {
@@ -106,12 +130,17 @@ struct thread {
     uint64_t newest_serial;
     int is_pending;         /* an exception is, as the core was told */
     int is_unsure;          /* something may have thrown or cleared one unseen */
+    _Atomic uint32_t critical_count; /* its critical pairs that are open. Another thread may release one */
     int has_entered;        /* it entered a monitor by MonitorEnter in this session */
     int endings;            /* how often the destructor of its key was called */
     const struct library *last_library; /* of its last call in the native method that it is in, or NULL */
+    uint64_t unsettled;          /* how many facts of it were told that may end its leases */
+    uint64_t ended[LOCAL_WORDS]; /* how often names of its locals ended, by their words */
+    struct lease leases[LEASES];
     struct recent_site recent[RECENT_SITES];
     struct memo memos[MEMOS];
-    uint64_t repeated; /* questions that were answered by these */
+    struct unheard unheard[UNHEARD]; /* by their handles: the newest of each place */
+    _Atomic uint64_t passed; /* questions that passed without the core being asked */
 };
 
 /* The struct of this thread, or NULL where it has none. */
@@ -177,14 +206,20 @@ static inline int threads_is_unsure(const struct thread *thread) {
 }
 
 /* Whether nothing need be told before a call: the same as threads_catch_up, where there is nothing to catch up. */
-static inline int threads_is_caught_up(const struct thread *thread, const JNIEnv *env, uintptr_t stack) {
+ALWAYS_INLINE int threads_is_caught_up(const struct thread *thread, const JNIEnv *env, uintptr_t stack) {
     const struct activation *newest = thread->depth ? &thread->activations[thread->depth - 1] : NULL;
     return thread->is_attached && !threads_is_unsure(thread) && thread->waiting.object == NULL && env == thread->env &&
            (newest == NULL || (newest->is_told && newest->stack > stack));
 }
 
-/* How many questions of all threads were answered without asking the core again. */
-uint64_t threads_repeated(void);
+/* How many questions of all threads passed without asking the core. */
+uint64_t threads_passed(void);
+
+/* So many more of this thread. */
+static inline void threads_count_passed(struct thread *thread, uint64_t more) {
+    uint64_t count = atomic_load_explicit(&thread->passed, memory_order_relaxed);
+    atomic_store_explicit(&thread->passed, count + more, memory_order_relaxed);
+}
 
 /* The name of an environment, whosever it is. */
 jg_value threads_env_name(const struct thread *thread, JNIEnv *env);
@@ -201,8 +236,34 @@ void threads_go_on(void);
 /* The machine says that the thread ends: the end of its session is told. */
 void JNICALL threads_ended(jvmtiEnv *tool, JNIEnv *env, jthread thread);
 
+/* Room for one more native method. */
+void threads_make_room(struct thread *thread);
+
 /* It enters a native method, of which the core isn't told yet. */
-void threads_enter(struct thread *thread, const struct native *native, uintptr_t stack);
+static inline void threads_enter(struct thread *thread, struct native *native, uintptr_t stack, int is_quiet) {
+    if (thread->depth == thread->activation_room) {
+        threads_make_room(thread);
+    }
+    struct activation *entered = &thread->activations[thread->depth++];
+    *entered = (struct activation){.stack = stack, .native = native, .is_quiet = (uint8_t)is_quiet};
+    thread->last_library = NULL;
+}
+
+/* The place for an argument of a quiet method. */
+static inline struct unheard *threads_unheard(struct thread *thread, uintptr_t handle) {
+    return &thread->unheard[(uint64_t)handle * 0x9E3779B97F4A7C15u / (UINT64_MAX / UNHEARD + 1)];
+}
+
+/*
+ * The place of the method whose argument the handle was, or is in another thread: one that the core doesn't know. It is
+ * written whose it is. NULL where there is none. It isn't found again.
+ */
+const struct site *threads_take_unheard(struct thread *thread, uintptr_t handle, uint32_t *number);
+
+/* Whether the address is within the thread's stack: there the arguments of native methods stand. */
+static inline int threads_has_on_stack(const struct thread *thread, uintptr_t handle) {
+    return handle >= thread->stack_low && handle < thread->stack_high;
+}
 
 /*
  * Whether the thread's locals are of the frame that the core takes them for: it is in the native method that the agent
@@ -213,8 +274,8 @@ int threads_knows_frame(const struct thread *thread);
 /* It leaves the newest one. Whether that was told: then the caller tells JG_LEAVES before. */
 int threads_leave(struct thread *thread);
 
-/* Tells the core of the newest native method. Between core_lock and core_unlock. */
-void threads_tell_enter(struct thread *thread);
+/* Tells the core of a native method. Those within it aren't told. Between core_lock and core_unlock. */
+void threads_tell_enter(struct thread *thread, struct activation *activation);
 
 /* A frame was pushed, or the newest one is popped: its locals end by this function. */
 void threads_push(struct thread *thread);

@@ -175,7 +175,7 @@ static void gather_operand(struct told *told, const struct call *call) {
     }
     told->origin = found.made_by == MADE_UNSEEN ? ORIGIN_UNSEEN : ORIGIN_MADE;
     told->made = (struct event){1, found.made_by == MADE_UNSEEN ? NULL : maker(found.made_by), found.made};
-    if (found.state != NAME_LIVE) {
+    if (found.state != NAME_LIVE && found.ended_by != ENDED_PERHAPS) {
         told->ended = (struct event){1, found.ended ? ender(found.ended_by) : NULL, found.ended};
     }
 }

@@ -14,9 +14,18 @@ public class Bench {
     static native double lengths(String text, int count);
     static native double locals(String text, int count);
     static native double fields(Object object, int count);
+    static native double calls(Object object, int count);
+    static native double items(Object[] array, int count);
     static native double criticals(int[] array, int count);
+    static native double criticalsRead(int[] array, int count);
+    static native double criticalsFilled(int[] array, int count);
     static native double attached(String text, int count);
     static native void empty();
+    native void empty(Object one, int number, Object other);
+
+    int answer() {
+        return number;
+    }
 
     interface Sample {
         double take(int count) throws Exception;
@@ -52,6 +61,15 @@ public class Bench {
         long begun = System.nanoTime();
         for (int at = 0; at < count; at++) {
             empty();
+        }
+        return (System.nanoTime() - begun) / (double) count;
+    }
+
+    /** The same of a method with references. */
+    static double empties(Bench object, Object other, int count) {
+        long begun = System.nanoTime();
+        for (int at = 0; at < count; at++) {
+            object.empty(other, at, object);
         }
         return (System.nanoTime() - begun) / (double) count;
     }
@@ -95,8 +113,13 @@ public class Bench {
         median("GetStringLength", samples, count, n -> lengths("a text", n));
         median("NewLocalRef+DeleteLocalRef", samples, count, n -> locals("a text", n));
         median("GetIntField", samples, count, n -> fields(object, n));
+        median("CallIntMethod+ExceptionCheck", samples, count, n -> calls(object, n));
+        median("GetObjectArrayElement+DeleteLocalRef", samples, count, n -> items(new Object[] {"text"}, n));
         median("critical-64KB", samples, Math.max(1, count / 20), n -> criticals(array, n));
+        median("critical-64KB-read", samples, Math.max(1, count / 20), n -> criticalsRead(array, n));
+        median("critical-64KB-filled", samples, Math.max(1, count / 20), n -> criticalsFilled(array, n));
         median("empty-native", samples, count, n -> empties(n));
+        median("empty-native-3-references", samples, count, n -> empties(object, array, n));
         median("GetStringLength-attached", samples, count, n -> attached("a text", n));
         // Each begins four threads, which takes as long as thousands of calls.
         median("GetStringLength-by-4", Math.max(3, samples / 20), 100 * count, n -> together(n));

@@ -41,12 +41,56 @@ JNIEXPORT jdouble JNICALL Java_Bench_fields(JNIEnv *env, jclass class, jobject o
     return (now() - begun) / count;
 }
 
+JNIEXPORT jdouble JNICALL Java_Bench_calls(JNIEnv *env, jclass class, jobject object, jint count) {
+    jmethodID answer = E->GetMethodID(env, class, "answer", "()I");
+    double begun = now();
+    for (jint at = 0; at < count; at++) {
+        E->CallIntMethod(env, object, answer);
+        E->ExceptionCheck(env);
+    }
+    return (now() - begun) / count;
+}
+
+JNIEXPORT jdouble JNICALL Java_Bench_items(JNIEnv *env, jclass class, jobjectArray array, jint count) {
+    double begun = now();
+    (void)class;
+    for (jint at = 0; at < count; at++) {
+        E->DeleteLocalRef(env, E->GetObjectArrayElement(env, array, 0));
+    }
+    return (now() - begun) / count;
+}
+
 JNIEXPORT jdouble JNICALL Java_Bench_criticals(JNIEnv *env, jclass class, jintArray array, jint count) {
     double begun = now();
     (void)class;
     for (jint at = 0; at < count; at++) {
         jint *items = E->GetPrimitiveArrayCritical(env, array, NULL);
         items[at & 1023]++;
+        E->ReleasePrimitiveArrayCritical(env, array, items, 0);
+    }
+    return (now() - begun) / count;
+}
+
+/* The same of a pair by which nothing is stored, and of one by which each item is. */
+JNIEXPORT jdouble JNICALL Java_Bench_criticalsRead(JNIEnv *env, jclass class, jintArray array, jint count) {
+    double begun = now();
+    (void)class;
+    for (jint at = 0; at < count; at++) {
+        jint *items = E->GetPrimitiveArrayCritical(env, array, NULL);
+        E->ReleasePrimitiveArrayCritical(env, array, items, 0);
+    }
+    return (now() - begun) / count;
+}
+
+JNIEXPORT jdouble JNICALL Java_Bench_criticalsFilled(JNIEnv *env, jclass class, jintArray array, jint count) {
+    jint length = E->GetArrayLength(env, array);
+    double begun = now();
+    (void)class;
+    for (jint at = 0; at < count; at++) {
+        jint *items = E->GetPrimitiveArrayCritical(env, array, NULL);
+        for (jint item = 0; item < length; item++) {
+            items[item] = at + item;
+        }
         E->ReleasePrimitiveArrayCritical(env, array, items, 0);
     }
     return (now() - begun) / count;
@@ -81,7 +125,16 @@ JNIEXPORT jdouble JNICALL Java_Bench_attached(JNIEnv *env, jclass class, jstring
     return work.time;
 }
 
-JNIEXPORT void JNICALL Java_Bench_empty(JNIEnv *env, jclass class) {
+JNIEXPORT void JNICALL Java_Bench_empty__(JNIEnv *env, jclass class) {
     (void)env;
     (void)class;
+}
+
+JNIEXPORT void JNICALL Java_Bench_empty__Ljava_lang_Object_2ILjava_lang_Object_2(JNIEnv *env, jobject self, jobject one,
+                                                                                jint number, jobject other) {
+    (void)env;
+    (void)self;
+    (void)one;
+    (void)number;
+    (void)other;
 }
