@@ -25,7 +25,7 @@ pub or_parts : (a b : Bool) → (a || b) ≡ false → (a ≡ false) × (b ≡ f
 or_parts true b is = absurd cc
 or_parts false b is = (refl, is)
 
-or_both : (a b : Bool) → a ≡ false → b ≡ false → (a || b) ≡ false
+pub or_both : (a b : Bool) → a ≡ false → b ≡ false → (a || b) ≡ false
 or_both a b first second = rw (first, second) refl
 
 -- what a reference names is the same, and of the same class

@@ -38,7 +38,8 @@ spares n EnterAct = true
 spares n (Delete k) = not (k == n)
 spares n a = false
 
-level : (n : ℕ) (later : List Act) → survives n later ≡ true
+-- who survived was neither left nor popped more often than entered and pushed
+pub level : (n : ℕ) (later : List Act) → survives n later ≡ true
     → (nat_le (how_many is_leave later) (how_many is_enter later) ≡ true) × (nat_le (done_here is_pop later) (done_here is_push later) ≡ true)
 level n [] alive = (refl, refl)
 level n (a ∷ later) alive = grind (arith, nat_tests, alive)

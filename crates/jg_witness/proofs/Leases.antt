@@ -1,10 +1,10 @@
 -- A question about words that passed passes still.
-use Rattle.std.proofs.Common.{ℕ, ◌≡◌, ◌≢◌, Bool, true, false, List, [], ◌∷◌, ◌++◌, map, Option, Some, None, refl, ap, sym, ◌∙◌, subst, arith, if◌then◌else◌}
+use Rattle.std.proofs.Common.{ℕ, ◌≡◌, ◌≢◌, Bool, true, false, List, [], ◌∷◌, ◌++◌, Option, Some, None, refl, ap, sym, ◌∙◌, subst, arith, if◌then◌else◌}
 use Rattle.std.specs.Prelude.{◌==◌, ◌||◌, not}
 use Rattle.std.specs.List.{list_any}
 use Rattle.std.proofs.lemmas.Bool.Decides.{nat_tests}
+use Rattle.std.proofs.lemmas.Bool.{not-true}
 use Rattle.jg_words.specs.declared.thread.Tid.{Tid}
-use Rattle.jg_words.specs.declared.thread.EnvId.{EnvId}
 use Rattle.jg_words.specs.declared.reference.Ref.{Ref}
 use Rattle.jg_words.specs.declared.reference.Ref.TheVariants.{Null, To}
 use Rattle.jg_words.specs.declared.reference.Kind.TheVariants.{Local, Global, Weak}
@@ -17,17 +17,16 @@ use Rattle.jg_judge.specs.declared.argument.Argument.{Argument}
 use Rattle.jg_judge.specs.declared.argument.Argument.TheVariants.{Reference}
 use Rattle.jg_judge.specs.Broken.{verdict}
 use Rattle.jg_core.specs.declared.fact.Fact.{Fact}
-use Rattle.jg_core.specs.declared.fact.Fact.TheVariants.{Lost}
-use Rattle.jg_core.specs.Facts.{on, parts_of, can_be, is_in_being, History}
+use Rattle.jg_core.specs.Facts.{on, parts_of, is_in_being, History}
 use Rattle.jg_core.proofs.Each.{each_told, keeps_below, keeps_globals_below}
 use Rattle.jg_core_laws.specs.Laws.{hinders, clouds, references, unsettles}
-use Rattle.jg_core_laws.proofs.Judged.{or_parts}
+use Rattle.jg_core_laws.proofs.Judged.{or_both, or_parts}
 use Rattle.jg_core_laws.proofs.Meanings.{fact_means}
 use Rattle.jg_core_laws.proofs.Leases.{passes_still}
 use Rattle.jg_witness.specs.declared.operand.Operand.{Operand}
 use Rattle.jg_witness.specs.declared.operand.Operand.TheVariants.{Word, Other}
 use Rattle.jg_witness.specs.Events.{Event, Told, Handed, Lapsed, AreNamed, facts_of, if_in_being, lost_after, meaning, newest}
-use Rattle.jg_witness.specs.Words.{or_dead, named_for, argument_of, arguments_of}
+use Rattle.jg_witness.specs.Words.{or_dead, named_for, arguments_of}
 use Rattle.jg_witness.specs.Laws.{HandNoneOut, facts_since, hands_anew, may_end, may_unsettle, WordsPassStill}
 use Rattle.jg_witness.proofs.Meant.{revived_law}
 
@@ -50,10 +49,6 @@ split (Lapsed word ∷ later) e =
 named_still : (old new : Named) → new ≡ old → not (is_nothing old) ≡ true → not (is_nothing new) ≡ true
 named_still old new same is = rw same is
 
-turned : (b : Bool) → not b ≡ true → b ≡ false
-turned true is = absurd cc
-turned false is = refl
-
 being_after : (s : StatedSetup) (w : List Fact) (x : Fact) (t : Tid) (r : Ref) → History s w → hinders t.0 x ≡ false → may_end x r ≡ false
     → is_in_being (parts_of w) r ≡ true → is_in_being (on x (parts_of w)) r ≡ true
 being_after s w x t Null could other clear is = is
@@ -62,21 +57,17 @@ being_after s w x t (To Local maker n) could other clear is =
     let both = or_parts (hinders maker.0 x) (clouds x (To Local maker n)) clear in
     named_still (names p maker.0 (To Local maker n)) (names (on x p) maker.0 (To Local maker n))
     (fact_means maker.0 x p (To Local maker n) (each_told _ s (keeps_below s) (λ u. tt) w could)
-    (each_told _ s (keeps_globals_below s) (λ u. tt) w could) both.0 both.1 (turned (is_nothing (names p maker.0 (To Local maker n))) is)) is
+    (each_told _ s (keeps_globals_below s) (λ u. tt) w could) both.0 both.1 (not-true (is_nothing (names p maker.0 (To Local maker n))) is)) is
 being_after s w x t (To Global maker n) could other clear is =
     let p : Parts = parts_of w in
     named_still (names p t.0 (To Global maker n)) (names (on x p) t.0 (To Global maker n))
     (fact_means t.0 x p (To Global maker n) (each_told _ s (keeps_below s) (λ u. tt) w could)
-    (each_told _ s (keeps_globals_below s) (λ u. tt) w could) other clear (turned (is_nothing (names p t.0 (To Global maker n))) is)) is
+    (each_told _ s (keeps_globals_below s) (λ u. tt) w could) other clear (not-true (is_nothing (names p t.0 (To Global maker n))) is)) is
 being_after s w x t (To Weak maker n) could other clear is =
     let p : Parts = parts_of w in
     named_still (names p t.0 (To Weak maker n)) (names (on x p) t.0 (To Weak maker n))
     (fact_means t.0 x p (To Weak maker n) (each_told _ s (keeps_below s) (λ u. tt) w could)
-    (each_told _ s (keeps_globals_below s) (λ u. tt) w could) other clear (turned (is_nothing (names p t.0 (To Weak maker n))) is)) is
-
-before : (s : StatedSetup) (newer w : List Fact) → History s (newer ++ w) → History s w
-before s [] w could = could
-before s (x ∷ newer) w could = before s newer w could.1
+    (each_told _ s (keeps_globals_below s) (λ u. tt) w could) other clear (not-true (is_nothing (names p t.0 (To Weak maker n))) is)) is
 
 being_later : (s : StatedSetup) (newer w : List Fact) (t : Tid) (r : Ref) → History s (newer ++ w)
     → list_any (λ x. hinders t.0 x || may_end x r) newer ≡ false
@@ -129,9 +120,6 @@ both_clear : (h a b : Bool) → (h || (a || b)) ≡ false → ((h || a) ≡ fals
 both_clear true a b is = absurd cc
 both_clear false true b is = absurd cc
 both_clear false false b is = (refl, is)
-
-or_both : (a b : Bool) → a ≡ false → b ≡ false → (a || b) ≡ false
-or_both a b first second = rw (first, second) refl
 
 first_clear : (t : Tid) (r : Ref) (rs : List Ref) (newer : List Fact) → AllClear t (r ∷ rs) newer
     → (list_any (λ x. hinders t.0 x || may_end x r) newer ≡ false) × AllClear t rs newer

@@ -1,6 +1,6 @@
 -- The laws of specs/Laws.
 use Rattle.std.proofs.Common.{ℕ, ◌≡◌, ◌≢◌, ◌<◌, ◌-◌, ◌^◌, Bool, true, false, List, [], ◌∷◌, ◌++◌, Option, Some, None, inr, refl, ap, sym, ◌∙◌, arith, eqb-true}
-use Rattle.std.specs.Prelude.{◌==◌, nat_le, if◌then◌else◌}
+use Rattle.std.specs.Prelude.{◌==◌, if◌then◌else◌}
 use Rattle.std.specs.Option.{is_some}
 use Rattle.std.proofs.lemmas.Bool.Decides.{nat_tests}
 use Rattle.jg_words.specs.declared.thread.Tid.{Tid}
@@ -8,10 +8,9 @@ use Rattle.jg_words.specs.declared.reference.Ref.{Ref}
 use Rattle.jg_words.specs.declared.reference.Ref.TheVariants.{Null, To}
 use Rattle.jg_words.specs.declared.reference.Kind.{Kind}
 use Rattle.jg_words.specs.declared.reference.Kind.TheVariants.{Local, Global, Weak}
-use Rattle.jg_words.proofs.Common.{and_first, and_second}
 use Rattle.jg_policy.specs.Stated.{StatedSetup}
 use Rattle.jg_table_threads.specs.History as threads
-use Rattle.jg_table_locals.specs.History.{Act, Delete, Making, acts_of, by, done_here, how_many, is_enter, is_leave, is_pop, is_push, live, local_if_live, making, object_of, seen_after, survives, IsMadeBelow}
+use Rattle.jg_table_locals.specs.History.{Act, Delete, Making, acts_of, by, live, local_if_live, making, object_of, seen_after, survives, IsMadeBelow}
 use Rattle.jg_table_locals.proofs.Callers.{acts_more, acts_same, each_thread, live_below}
 use Rattle.jg_table_globals.specs.History as globals
 use Rattle.jg_rules.specs.Parts.{Parts}
@@ -21,6 +20,7 @@ use Rattle.jg_core.specs.declared.fact.Fact.{Fact}
 use Rattle.jg_core.specs.Facts.{lost_on, parts_of, is_in_being, History}
 use Rattle.jg_core.proofs.Few.{references_most}
 use Rattle.jg_core.proofs.Due.{ordinary}
+use Rattle.jg_core_laws.proofs.Meanings.{level}
 use Rattle.jg_witness.specs.Events.{Event, Told, Handed, Lapsed, AreNamed, facts_of, if_in_being, lost_after, meaning, newest}
 use Rattle.jg_witness.specs.Standing.{Keeps}
 use Rattle.jg_witness.specs.Laws.{LapsedMeansNothing, HandedMeans, HandNoneOut, NoWordRevived, NamelessIsDead}
@@ -32,23 +32,13 @@ lapsed_law e word = lapsed_nothing word e
 
 -- ---- another name's end leaves a reference in being
 
--- what survived so far stands between as many that left as entered, and as many that were popped as pushed
-abbrev Balanced : List Act → Type 0
-Balanced later = (nat_le (how_many is_leave later) (how_many is_enter later) ≡ true) × (nat_le (done_here is_pop later) (done_here is_push later) ≡ true)
-
-balanced : (n : ℕ) (later : List Act) → survives n later ≡ true → Balanced later
-balanced n [] is = (refl, refl)
-balanced n (a ∷ later) is =
-    let both = and_second _ _ is in
-    (and_first _ _ both, and_second _ _ both)
-
 survives_if : (b : Bool) (i n : ℕ) (later : List Act) → survives n later ≡ b → (i == n) ≡ false → survives n (Delete i ∷ later) ≡ b
-survives_if true i n later is other = let both = balanced n later is in rw (is, other, both.0, both.1) refl
+survives_if true i n later is other = let both = level n later is in rw (is, other, both.0, both.1) refl
 survives_if false i n later is other = rw is refl
 
 live_if : (b : Bool) (i n : ℕ) (m : Making) → survives n m.later ≡ b → (i == n) ≡ false
     → object_of (local_if_live n (seen_after (Delete i) (Some m))) ≡ object_of (local_if_live n (Some m))
-live_if true i n m is other = let both = balanced n m.later is in rw (is, other, both.0, both.1) refl
+live_if true i n m is other = let both = level n m.later is in rw (is, other, both.0, both.1) refl
 live_if false i n m is other = rw is refl
 
 live_still : (i n : ℕ) (found : Option Making) → (i == n) ≡ false
