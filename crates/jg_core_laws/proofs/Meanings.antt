@@ -22,7 +22,7 @@ use Rattle.jg_rules.specs.Rules.{is_nothing}
 use Rattle.jg_laws.proofs.Kept.{Below, GlobalsBelow}
 use Rattle.jg_laws.proofs.Fresh.{kind_below, same_pair}
 use Rattle.jg_core.specs.declared.fact.Fact.{Fact}
-use Rattle.jg_core.specs.declared.fact.Fact.TheVariants.{Begin, End, Enter, Leave, Push as PushFact, Pop, Ensure as EnsureFact, Calm, Hand, Lost, Gone}
+use Rattle.jg_core.specs.declared.fact.Fact.TheVariants.{Begin, End, Enter, Leave, Push as PushFact, Pop, Ensure as EnsureFact, Hand, Lost, Gone}
 use Rattle.jg_core.specs.Facts.{on, handed_on, kept_on, lost_on}
 use Rattle.jg_core_laws.specs.Laws.{hinders, clouds}
 use Rattle.jg_core_laws.proofs.Callers.{not_same}
@@ -148,7 +148,7 @@ strong_more m n o (globals.MakeWeak k i q) e apart is = is
 strong_more m n o (globals.DeleteWeak k i) e apart is = is
 strong_more m n o (globals.Clear q) e apart is = is
 
-abbrev is_clearing : globals.Event → Bool
+abbrev pub is_clearing : globals.Event → Bool
 is_clearing (globals.Clear o) = true
 is_clearing ev = false
 
@@ -164,7 +164,7 @@ cleared_as : (ev : globals.Event) (later : List globals.Event) (found : Option �
 cleared_as ev later None none = refl
 cleared_as ev later (Some o) none = rw (clears_none o ev none) refl
 
-weak_more : (m n : ℕ) (ev : globals.Event) (e : List globals.Event) → about_weak m n ev ≡ false → is_clearing ev ≡ false
+pub weak_more : (m n : ℕ) (ev : globals.Event) (e : List globals.Event) → about_weak m n ev ≡ false → is_clearing ev ≡ false
     → globals.weak_target (ev ∷ e) m n ≡ globals.weak_target e m n
 weak_more m n (globals.MakeWeak k i q) e apart none =
     rw apart (cleared_as (globals.MakeWeak k i q) (globals.after_making m n e) (globals.weak e m n) refl)
