@@ -1,9 +1,10 @@
--- A question is judged by the facts that concern its thread, and those who were handed its references.
+-- A question is answered by the facts that concern its thread, and those who were handed its references.
 use Rattle.std.proofs.Common.{ℕ, ◌≡◌, Bool, true, false, List, [], ◌∷◌, Option, Some, None, refl, ap, sym, ◌∙◌, subst, arith, eqb-true, if◌then◌else◌}
-use Rattle.std.specs.Prelude.{◌==◌, not, find}
+use Rattle.std.specs.Prelude.{◌==◌, ◌+◌, not, find, slice_get}
 use Rattle.std.specs.List.{list_any, AllByRecursion}
 use Rattle.std.proofs.lemmas.Bool.Decides.{nat_tests}
 use Rattle.std.proofs.lemmas.Option.{same_Some}
+use Rattle.jg_words.specs.declared.thread.Tid.{Tid}
 use Rattle.jg_words.specs.declared.thread.EnvId.{EnvId}
 use Rattle.jg_words.specs.declared.object.ObjId.{ObjId}
 use Rattle.jg_words.specs.declared.reference.Ref.{Ref}
@@ -22,9 +23,11 @@ use Rattle.jg_table_buffers.specs.History as buffers
 use Rattle.jg_table_buffers.specs.declared.family.Family.{Family}
 use Rattle.jg_table_buffers.proofs.Callers.{critical_law, still_lent}
 use Rattle.jg_rows.specs.declared.row.Effect.{Effect}
-use Rattle.jg_rows.specs.declared.row.Effect.TheVariants.{Ends, Frees, Pops, Detaches, Enters, Leaves, Links}
+use Rattle.jg_rows.specs.declared.row.Effect.TheVariants.{Ends, Frees, Pops, Detaches, Enters, Leaves, Links, Lends, Raises, Owns, Attaches, Unlinks}
 use Rattle.jg_rows.specs.declared.row.ObjectKind.{ObjectKind}
+use Rattle.jg_rows.specs.declared.row.Takes.{Takes}
 use Rattle.jg_rows.specs.Columns.{Columns}
+use Rattle.jg_rows.specs.Table.{functions}
 use Rattle.jg_rules.specs.declared.named.Named.{Named}
 use Rattle.jg_rules.specs.declared.named.Named.TheVariants.{Nothing, Null as NamesNull, Object}
 use Rattle.jg_rules.specs.Parts.{Parts}
@@ -33,16 +36,21 @@ use Rattle.jg_rules.specs.Rules.{rules_in_order, is_linked}
 use Rattle.jg_judge.specs.declared.argument.Argument.{Argument}
 use Rattle.jg_judge.specs.declared.argument.Argument.TheVariants.{Reference}
 use Rattle.jg_judge.specs.declared.argument.Bounds.{Bounds}
-use Rattle.jg_judge.specs.Asked.{Judged, judged, paired, first_reference}
-use Rattle.jg_judge.specs.Broken.{broken, verdict, detached, is_wrong_kind, bad_argument, is_out_of_bounds, pinned, not_owner, bad_frame, no_access, not_linked, class_by_name, native_by_name}
+use Rattle.jg_judge.specs.Asked.{Judged, judged, judged_of, paired, is_last, first_reference, first_buffer}
+use Rattle.jg_judge.specs.Culprit.{culprit}
+use Rattle.jg_judge.specs.Faults.{Beside, faults_of, first_that}
+use Rattle.jg_judge.specs.Broken.{broken, verdict, buffer_meant, detached, is_wrong_kind, bad_argument, is_out_of_bounds, pinned, not_owner, bad_frame, no_access, not_linked, class_by_name, native_by_name}
 use Rattle.jg_core.specs.declared.fact.Fact.{Fact}
 use Rattle.jg_core.specs.declared.fact.Fact.TheVariants.{Begin, End, Enter, Leave, Push, Pop, Ensure, Raise, Calm, Hand, Lost, Lend, Back, Own, Free, Meet, Gone, Link, Unlink, Warn, Checked}
+use Rattle.jg_core.specs.Asking.{asked, by_row, by_verdict}
+use Rattle.jg_core.specs.Denied.{doer}
+use Rattle.jg_core.specs.Expected.{expected_of}
 use Rattle.jg_core.specs.Facts.{on, parts_of, handed_on, kept_on, lost_on, lent}
 use Rattle.jg_core_laws.specs.Laws.{references, is_buffer}
-use Rattle.jg_core_laws.specs.Apart.{is_theirs, concerns, concerning, is_apart, JudgedApart}
+use Rattle.jg_core_laws.specs.Apart.{is_theirs, concerns, concerning, is_apart, is_of, is_apart_row, AnsweredApart}
 use Rattle.jg_core_laws.proofs.Classes.{kind_same}
 use Rattle.jg_core_laws.proofs.Meanings.{weak_more}
-use Rattle.jg_core_laws.proofs.Judged.{or_parts, each_judged, no_buffer, buffers_right, all_bounds_same}
+use Rattle.jg_core_laws.proofs.Judged.{or_parts, each_judged, first_of, operand, no_buffer, buffer_right, buffers_right, bounds_same, all_bounds_same}
 
 -- ---- what the tables have of those threads
 
@@ -419,42 +427,41 @@ module _ (those : ℕ → Bool) where
   names_same t p q (To Global maker n) is own same = rw (same.globals.strong maker.0 n own) refl
   names_same t p q (To Weak maker n) is own same = rw (same.globals.target maker.0 n own) refl
 
+  theirs : (rs : List Ref) → list_any (λ r. not (is_theirs those r)) rs ≡ false → AllByRecursion (λ r. is_theirs those r ≡ true) rs
+  theirs [] none = tt
+  theirs (r ∷ rs) none =
+      let both = or_parts (not (is_theirs those r)) _ none in
+      (is_so (is_theirs those r) both.0, theirs rs both.1)
+    where
+      is_so : (b : Bool) → not b ≡ false → b ≡ true
+      is_so true is = refl
+      is_so false is = absurd cc
+
+  first_theirs : (xs : List Argument) → AllByRecursion (λ r. is_theirs those r ≡ true) (references xs) → is_theirs those (first_reference xs) ≡ true
+  first_theirs [] all = refl
+  first_theirs (Reference r ∷ xs) all = all.0
+  first_theirs (x ∷ xs) all = first_theirs xs all
+
   -- ---- each rule
 
-  module _ (bounds : Bounds) (s : StatedSetup) (t : ℕ) (env : Option EnvId) (row : Columns) (xs : List Argument) (plain : is_apart row.effect ≡ true)
-      (unlent : list_any is_buffer xs ≡ false) (one : those t ≡ true) (own : list_any (λ r. not (is_theirs those r)) (references xs) ≡ false) where
-    theirs : (rs : List Ref) → list_any (λ r. not (is_theirs those r)) rs ≡ false → AllByRecursion (λ r. is_theirs those r ≡ true) rs
-    theirs [] none = tt
-    theirs (r ∷ rs) none =
-        let both = or_parts (not (is_theirs those r)) _ none in
-        (is_so (is_theirs those r) both.0, theirs rs both.1)
-      where
-        is_so : (b : Bool) → not b ≡ false → b ≡ true
-        is_so true is = refl
-        is_so false is = absurd cc
+  module _ (bounds : Bounds) (s : StatedSetup) (p q : Parts) (same : Alike p q) where
+    kind_alike : (kind : ObjectKind) (named : Named) → is_wrong_kind s p kind named ≡ is_wrong_kind s q kind named
+    kind_alike kind Nothing = refl
+    kind_alike kind NamesNull = refl
+    kind_alike kind (Object o) = rw (kind_same s q p kind o.0 (rw same.heap refl)) refl
 
-    operands : AllByRecursion (λ j. is_theirs those j.reference ≡ true) (judged row.takes xs)
-    operands = each_judged (λ r. is_theirs those r ≡ true) refl row.takes xs (theirs (references xs) own)
+    module _ (t : ℕ) (one : those t ≡ true) (xs : List Argument) (unlent : list_any is_buffer xs ≡ false)
+        (own : AllByRecursion (λ r. is_theirs those r ≡ true) (references xs)) where
+      named_alike : (r : Ref) → is_theirs those r ≡ true → names p t r ≡ names q t r
+      named_alike r of_them = names_same t p q r one of_them same
 
-    first_theirs : (ys : List Argument) → AllByRecursion (λ r. is_theirs those r ≡ true) (references ys) → is_theirs those (first_reference ys) ≡ true
-    first_theirs [] all = refl
-    first_theirs (Reference r ∷ ys) all = all.0
-    first_theirs (y ∷ ys) all = first_theirs ys all
+      first_named : names p t (first_reference xs) ≡ names q t (first_reference xs)
+      first_named = named_alike (first_reference xs) (first_theirs xs own)
 
-    module _ (p q : Parts) (same : Alike p q) where
       any_same : (old new : Judged → Bool) → ((j : Judged) → names p t j.reference ≡ names q t j.reference → old j ≡ new j) → (js : List Judged)
           → AllByRecursion (λ j. is_theirs those j.reference ≡ true) js → list_any old js ≡ list_any new js
       any_same old new each [] all = refl
-      any_same old new each (j ∷ js) all = rw (each j (names_same t p q j.reference one all.0 same), any_same old new each js all.1) refl
-
-      kind_alike : (kind : ObjectKind) (named : Named) → is_wrong_kind s p kind named ≡ is_wrong_kind s q kind named
-      kind_alike kind Nothing = refl
-      kind_alike kind NamesNull = refl
-      kind_alike kind (Object o) = rw (kind_same s q p kind o.0 (rw same.heap refl)) refl
-
-      detached_alike : (given : Option EnvId) → detached p t given row ≡ detached q t given row
-      detached_alike None = refl
-      detached_alike (Some e) = rw (same.threads t one) refl
+      any_same old new each (j ∷ js) all = rw (each j (named_alike j.reference all.0), any_same old new each js all.1) refl
 
       frame_alike : (effect : Effect) → bad_frame p t effect ≡ bad_frame q t effect
       frame_alike Detaches = rw (same.threads t one) refl
@@ -473,7 +480,7 @@ module _ (those : ℕ → Bool) where
       owner_alike effect r is = refl
 
       access_alike : (effect : Effect) → no_access s p t effect (first_reference xs) xs ≡ no_access s q t effect (first_reference xs) xs
-      access_alike Links = rw (names_same t p q (first_reference xs) one (first_theirs xs (theirs (references xs) own)) same) refl
+      access_alike Links = rw first_named refl
       access_alike effect = refl
 
       linked_alike : (effect : Effect) → not_linked s p effect xs ≡ not_linked s q effect xs
@@ -485,37 +492,125 @@ module _ (those : ℕ → Bool) where
           by_links (Some class) (Some native) = rw same.links refl
       linked_alike effect = refl
 
-      rule_alike : (rule : Rule) → broken rule bounds s p t env row xs ≡ broken rule bounds s q t env row xs
-      rule_alike WrongThread = refl
-      rule_alike Detached = detached_alike env
-      rule_alike InCritical = rw (critical_same t p q one same) refl
-      rule_alike Pending = rw (same.threads t one) refl
-      rule_alike ForeignLocal = refl
-      rule_alike DeadReference = any_same _ _ (λ j is. rw is refl) (judged row.takes xs) operands
-      rule_alike WrongRefKind = refl
-      rule_alike NullReference = any_same _ _ (λ j is. rw is refl) (judged row.takes xs) operands
-      rule_alike WrongType = any_same _ _ (λ j is. rw is (kind_alike j.kind (names q t j.reference))) (judged row.takes xs) operands
-      rule_alike BadField = refl
-      rule_alike BadBuffer = buffers_right p t (first_reference xs) row.takes xs unlent ∙ sym (buffers_right q t (first_reference xs) row.takes xs unlent)
-      rule_alike BadArgument = bounds_alike
-        where
-          of_none : (x : Parts) → bad_argument bounds s x row xs ≡ list_any (λ y. is_out_of_bounds bounds s x None y.0 y.1) (paired row.takes xs)
-          of_none x = rw (no_buffer xs unlent) refl
+      module _ (env : Option EnvId) (row : Columns) (plain : is_apart row.effect ≡ true) where
+        operands : AllByRecursion (λ j. is_theirs those j.reference ≡ true) (judged row.takes xs)
+        operands = each_judged (λ r. is_theirs those r ≡ true) refl row.takes xs own
 
-          bounds_alike : bad_argument bounds s p row xs ≡ bad_argument bounds s q row xs
-          bounds_alike = of_none p ∙ (all_bounds_same bounds s q p (paired row.takes xs) ∙ sym (of_none q))
-      rule_alike Pinned = pinned_alike row.effect (first_reference xs) plain
-      rule_alike NotOwner = owner_alike row.effect (first_reference xs) plain
-      rule_alike BadFrame = frame_alike row.effect
-      rule_alike NoNativeAccess = access_alike row.effect
-      rule_alike NotLinked = linked_alike row.effect
+        detached_alike : (given : Option EnvId) → detached p t given row ≡ detached q t given row
+        detached_alike None = refl
+        detached_alike (Some e) = rw (same.threads t one) refl
 
-      first_alike : (rules : List Rule) → find (λ rule. broken rule bounds s p t env row xs) rules ≡ find (λ rule. broken rule bounds s q t env row xs) rules
-      first_alike [] = refl
-      first_alike (rule ∷ rules) = rw (rule_alike rule, first_alike rules) refl
+        no_buffer_meant : (u : Parts) → bad_argument bounds s u row xs ≡ list_any (λ y. is_out_of_bounds bounds s u None y.0 y.1) (paired row.takes xs)
+        no_buffer_meant u = rw (no_buffer xs unlent) refl
 
-pub judged_apart : JudgedApart
-judged_apart bounds s t env row xs those v w plain unlent one own same =
-    let of_v = first_alike those bounds s t env row xs plain unlent one own (parts_of v) (parts_of (concerning those v)) (alike those v) rules_in_order in
-    let of_w = first_alike those bounds s t env row xs plain unlent one own (parts_of w) (parts_of (concerning those w)) (alike those w) rules_in_order in
-    of_v ∙ (ap (λ u. verdict bounds s (parts_of u) t env row xs) same ∙ sym of_w)
+        rule_alike : (rule : Rule) → broken rule bounds s p t env row xs ≡ broken rule bounds s q t env row xs
+        rule_alike WrongThread = refl
+        rule_alike Detached = detached_alike env
+        rule_alike InCritical = rw (critical_same t p q one same) refl
+        rule_alike Pending = rw (same.threads t one) refl
+        rule_alike ForeignLocal = refl
+        rule_alike DeadReference = any_same _ _ (λ j is. rw is refl) (judged row.takes xs) operands
+        rule_alike WrongRefKind = refl
+        rule_alike NullReference = any_same _ _ (λ j is. rw is refl) (judged row.takes xs) operands
+        rule_alike WrongType = any_same _ _ (λ j is. rw is (kind_alike j.kind (names q t j.reference))) (judged row.takes xs) operands
+        rule_alike BadField = refl
+        rule_alike BadBuffer =
+            buffers_right p t (first_reference xs) row.takes xs unlent ∙ sym (buffers_right q t (first_reference xs) row.takes xs unlent)
+        rule_alike BadArgument = no_buffer_meant p ∙ (all_bounds_same bounds s q p (paired row.takes xs) ∙ sym (no_buffer_meant q))
+        rule_alike Pinned = pinned_alike row.effect (first_reference xs) plain
+        rule_alike NotOwner = owner_alike row.effect (first_reference xs) plain
+        rule_alike BadFrame = frame_alike row.effect
+        rule_alike NoNativeAccess = access_alike row.effect
+        rule_alike NotLinked = linked_alike row.effect
+
+        first_alike : (rules : List Rule) → find (λ rule. broken rule bounds s p t env row xs) rules ≡ find (λ rule. broken rule bounds s q t env row xs) rules
+        first_alike [] = refl
+        first_alike (rule ∷ rules) = rw (rule_alike rule, first_alike rules) refl
+
+        verdict_alike : verdict bounds s p t env row xs ≡ verdict bounds s q t env row xs
+        verdict_alike = first_alike rules_in_order
+
+    -- ---- which operand breaks a rule
+
+    module _ (t : ℕ) (one : those t ≡ true) (via : Ref) (rule : Rule) where
+      abbrev beside : Beside
+      beside = record { bounds = bounds; via = via; info = None }
+
+      faults_alike : (takes : Takes) (x : Argument) → is_buffer x ≡ false → is_theirs those (judged_of takes x).reference ≡ true
+          → faults_of s p t beside takes x ≡ faults_of s q t beside takes x
+      faults_alike takes x unlent own =
+          let is = names_same t p q (judged_of takes x).reference one own same in
+          rw (
+            is,
+            kind_alike (judged_of takes x).kind (names q t (judged_of takes x).reference),
+            buffer_right p t via takes x unlent,
+            buffer_right q t via takes x unlent,
+            bounds_same bounds s q p takes x,
+          ) refl
+
+      place_alike : (n : ℕ) (takes : List Takes) (xs : List Argument) → list_any is_buffer xs ≡ false
+          → AllByRecursion (λ r. is_theirs those r ≡ true) (references xs)
+          → first_that s p t beside rule n (paired takes xs) ≡ first_that s q t beside rule n (paired takes xs)
+      place_alike n takes [] unlent own = refl
+      place_alike n [] (x ∷ xs) unlent own = refl
+      place_alike n (take ∷ takes) (x ∷ xs) unlent own =
+          let both = or_parts (is_buffer x) (list_any is_buffer xs) unlent in
+          let parts = first_of (λ r. is_theirs those r ≡ true) refl x xs own in
+          rw (
+            faults_alike take x both.0 (operand (λ r. is_theirs those r ≡ true) refl take x parts.0),
+            place_alike (n + 1) (if is_last take then take ∷ takes else takes) xs both.1 parts.1,
+          ) refl
+
+    -- ---- the answer
+
+    module _ (t : Tid) (one : those t.0 ≡ true) (env : Option EnvId) (of_one : is_of those env ≡ true) (row : Columns) (plain : is_apart row.effect ≡ true)
+        (xs : List Argument) (unlent : list_any is_buffer xs ≡ false) (own : AllByRecursion (λ r. is_theirs those r ≡ true) (references xs)) where
+      abbrev place : Parts → Rule → Option ℕ
+      place u rule = first_that s u t.0 (record { bounds = bounds; via = first_reference xs; info = buffer_meant u (first_buffer xs) }) rule 0 (paired row.takes xs)
+
+      place_by : (rule : Rule) → place p rule ≡ place q rule
+      place_by rule = rw (no_buffer xs unlent) (place_alike t.0 one (first_reference xs) rule 0 row.takes xs unlent own)
+
+      culprit_alike : (rule : Rule) → culprit bounds s p t.0 rule row.takes xs ≡ culprit bounds s q t.0 rule row.takes xs
+      culprit_alike ForeignLocal = place_by ForeignLocal
+      culprit_alike DeadReference = place_by DeadReference
+      culprit_alike NullReference = place_by NullReference
+      culprit_alike WrongType = place_by WrongType
+      culprit_alike BadField = place_by BadField
+      culprit_alike BadBuffer = place_by BadBuffer
+      culprit_alike BadArgument = place_by BadArgument
+      culprit_alike rule = refl
+
+      expected_alike : (u : Tid) → those u.0 ≡ true → (effect : Effect) → expected_of s p u row effect xs ≡ expected_of s q u row effect xs
+      expected_alike u is (Lends family) = rw (first_named u.0 is xs unlent own) refl
+      expected_alike u is Raises = rw (first_named u.0 is xs unlent own) refl
+      expected_alike u is Owns = rw (first_named u.0 is xs unlent own) refl
+      expected_alike u is Frees = rw (first_named u.0 is xs unlent own) refl
+      expected_alike u is Links = rw (first_named u.0 is xs unlent own) refl
+      expected_alike u is Unlinks = rw (first_named u.0 is xs unlent own) refl
+      expected_alike u is Attaches = rw (same.threads u.0 is) refl
+      expected_alike u is Detaches = rw (same.threads u.0 is) refl
+      expected_alike u is effect = refl
+
+      doer_theirs : (rule : Rule) (given : Option EnvId) → is_of those given ≡ true → those (doer rule t given).0 ≡ true
+      doer_theirs WrongThread (Some e) of_them = of_them
+      doer_theirs rule given of_them = one
+
+      by_verdict_alike : (found : Option Rule) → by_verdict bounds s p t env row xs found ≡ by_verdict bounds s q t env row xs found
+      by_verdict_alike None = rw (expected_alike t one row.effect) refl
+      by_verdict_alike (Some rule) = rw (culprit_alike rule, expected_alike (doer rule t env) (doer_theirs rule env of_one) row.effect) refl
+
+      by_row_alike : by_row bounds s p t env xs (Some row) ≡ by_row bounds s q t env xs (Some row)
+      by_row_alike = rw (verdict_alike t.0 one xs unlent own env row plain, by_verdict_alike (verdict bounds s q t.0 env row xs)) refl
+
+pub answered_apart : AnsweredApart
+answered_apart bounds s t env function xs those v w plain unlent one of_one own same =
+    of_concerning v ∙ (ap (λ u. asked bounds s (parts_of u) t env function xs) same ∙ sym (of_concerning w))
+  where
+    by_found : (p q : Parts) → Alike those p q → (row : Option Columns) → is_apart_row row ≡ true → by_row bounds s p t env xs row ≡ by_row bounds s q t env xs row
+    by_found p q alike None is = refl
+    by_found p q alike (Some row) is =
+        by_row_alike those bounds s p q alike t one env of_one row is xs unlent (theirs those (references xs) own)
+
+    of_concerning : (u : List Fact) → asked bounds s (parts_of u) t env function xs ≡ asked bounds s (parts_of (concerning those u)) t env function xs
+    of_concerning u = by_found (parts_of u) (parts_of (concerning those u)) (alike those u) (slice_get functions function) plain

@@ -39,11 +39,11 @@ module _ (K : Ref → Type 0) (null : K Null) where
   OfOperand (Reference r) = K r
   OfOperand x = Unit {0}
 
-  first_of : (x : Argument) (xs : List Argument) → AllByRecursion K (references (x ∷ xs)) → OfOperand x × AllByRecursion K (references xs)
+  pub first_of : (x : Argument) (xs : List Argument) → AllByRecursion K (references (x ∷ xs)) → OfOperand x × AllByRecursion K (references xs)
   first_of (Reference r) xs all = (all.0, all.1)
   first_of x xs all = (tt, all)
 
-  operand : (takes : Takes) (x : Argument) → OfOperand x → K (judged_of takes x).reference
+  pub operand : (takes : Takes) (x : Argument) → OfOperand x → K (judged_of takes x).reference
   operand (TakesReference kind) (Reference r) here = here
   operand (TakesReference kind) x here = null
   operand Nullable (Reference r) here = here
@@ -112,7 +112,7 @@ no_buffer [] none = refl
 no_buffer (Buffer b ∷ xs) none = absurd cc
 no_buffer (x ∷ xs) none = no_buffer xs none
 
-buffer_right : (p : Parts) (t : ℕ) (r : Ref) (takes : Takes) (x : Argument) → is_buffer x ≡ false → is_wrong_buffer p t r takes x ≡ false
+pub buffer_right : (p : Parts) (t : ℕ) (r : Ref) (takes : Takes) (x : Argument) → is_buffer x ≡ false → is_wrong_buffer p t r takes x ≡ false
 buffer_right p t r takes (Buffer b) none = absurd cc
 buffer_right p t r takes x none = refl
 
@@ -124,7 +124,7 @@ buffers_right p t r (take ∷ takes) (x ∷ xs) none =
     let both = or_parts (is_buffer x) (list_any is_buffer xs) none in
     or_both _ _ (buffer_right p t r take x both.0) (buffers_right p t r (if is_last take then take ∷ takes else takes) xs both.1)
 
-bounds_same : (bounds : Bounds) (s : StatedSetup) (p q : Parts) (takes : Takes) (x : Argument)
+pub bounds_same : (bounds : Bounds) (s : StatedSetup) (p q : Parts) (takes : Takes) (x : Argument)
     → is_out_of_bounds bounds s q None takes x ≡ is_out_of_bounds bounds s p None takes x
 bounds_same bounds s p q Item (ValueOf v) = refl
 bounds_same bounds s p q (Value item) (ValueOf v) = refl
