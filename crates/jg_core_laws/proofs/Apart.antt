@@ -603,6 +603,13 @@ module _ (those : ℕ → Bool) where
       by_row_alike : by_row bounds s p t env xs (Some row) ≡ by_row bounds s q t env xs (Some row)
       by_row_alike = rw (verdict_alike t.0 one xs unlent own env row plain, by_verdict_alike (verdict bounds s q t.0 env row xs)) refl
 
+-- what a reference names that they were handed
+pub named_apart : (those : ℕ → Bool) (t : ℕ) (r : Ref) (v w : List Fact) → those t ≡ true → is_theirs those r ≡ true → concerning those v ≡ concerning those w
+    → names (parts_of v) t r ≡ names (parts_of w) t r
+named_apart those t r v w one own same =
+    names_same those t (parts_of v) (parts_of (concerning those v)) r one own (alike those v)
+    ∙ (ap (λ u. names (parts_of u) t r) same ∙ sym (names_same those t (parts_of w) (parts_of (concerning those w)) r one own (alike those w)))
+
 pub answered_apart : AnsweredApart
 answered_apart bounds s t env function xs those v w plain unlent one of_one own same =
     of_concerning v ∙ (ap (λ u. asked bounds s (parts_of u) t env function xs) same ∙ sym (of_concerning w))

@@ -5,3 +5,4 @@ pub mod Meant
 pub mod Returning
 pub mod Standing
 pub mod Leases
+pub mod Apart

@@ -1,6 +1,6 @@
 -- What holds whatever happened. A list of events has the newest first; its facts could be when they were told.
-use Rattle.std.specs.Prelude.{ℕ, ◌≡◌, ◌≢◌, ◌≤◌, ◌^◌, ◌==◌, ◌||◌, Bool, true, false, List, [], ◌∷◌, ◌++◌, Option, Some, None}
-use Rattle.std.specs.List.{list_any}
+use Rattle.std.specs.Prelude.{ℕ, ◌≡◌, ◌≢◌, ◌≤◌, ◌^◌, ◌==◌, ◌||◌, Bool, true, false, not, slice_get, List, [], ◌∷◌, ◌++◌, Option, Some, None}
+use Rattle.std.specs.List.{list_any, AllByRecursion}
 use Rattle.jg_words.specs.declared.thread.Tid.{Tid}
 use Rattle.jg_words.specs.declared.thread.EnvId.{EnvId}
 use Rattle.jg_words.specs.declared.reference.Ref.{Ref}
@@ -10,14 +10,17 @@ use Rattle.jg_policy.specs.Stated.{StatedSetup}
 use Rattle.jg_rules.specs.declared.named.Named.TheVariants.{Nothing}
 use Rattle.jg_rules.specs.Names.{names}
 use Rattle.jg_rows.specs.Columns.{Columns}
+use Rattle.jg_rows.specs.Table.{functions}
 use Rattle.jg_judge.specs.declared.argument.Argument.{Argument}
 use Rattle.jg_judge.specs.declared.argument.Bounds.{Bounds}
 use Rattle.jg_judge.specs.Broken.{verdict}
 use Rattle.jg_core.specs.declared.fact.Fact.{Fact}
 use Rattle.jg_core.specs.Facts.{History, parts_of, is_in_being, made_in}
+use Rattle.jg_core.specs.Asking.{asked}
+use Rattle.jg_core_laws.specs.Apart.{is_theirs, concerning, is_of, is_apart_row}
 use Rattle.jg_core_laws.specs.Laws.{hinders, clouds, references, is_plain, is_buffer}
 use Rattle.jg_witness.specs.declared.operand.Operand.{Operand}
-use Rattle.jg_witness.specs.declared.operand.Operand.TheVariants.{Word}
+use Rattle.jg_witness.specs.declared.operand.Operand.TheVariants.{Word, Other}
 use Rattle.jg_witness.specs.Events.{Event, Told, Handed, Lapsed, AreNamed, facts_of, meaning, newest, lost_after}
 use Rattle.jg_witness.specs.Words.{dead_of, arguments_of}
 
@@ -88,3 +91,27 @@ WordsPassStill = (bounds : Bounds) (s : StatedSetup) (t : Tid) (env : Option Env
     → verdict bounds s (parts_of (facts_of e)) t.0 env row (arguments_of t e xs) ≡ None
     → (arguments_of t (later ++ e) xs ≡ arguments_of t e xs)
     × (verdict bounds s (parts_of (facts_of (later ++ e))) t.0 env row (arguments_of t (later ++ e) xs) ≡ None)
+
+-- ---- which threads an answer depends on
+
+-- nothing that one of those threads wasn't handed, and no buffer
+abbrev pub IsTheirs : (ℕ → Bool) → Option Ref → Type 0
+IsTheirs those None = Unit {0}
+IsTheirs those (Some name) = is_theirs those name ≡ true
+
+-- after both lists of events the word was last handed out for the same name, which is of a reference of those threads;
+-- another operand is no buffer, and no reference but of theirs
+abbrev pub IsSame : (ℕ → Bool) → List Event → List Event → Operand → Type 0
+IsSame those d e (Word word) = (newest word d ≡ newest word e) × IsTheirs those (newest word e)
+IsSame those d e (Other x) = (is_buffer x ≡ false) × (list_any (λ r. not (is_theirs those r)) (references (x ∷ [])) ≡ false)
+
+-- a question about words of one of those threads is answered alike after two lists of events, if the same facts concern
+-- those threads in both, in the same order: whatever the machine did of other threads, and when
+-- (proofs/Apart.antt)
+abbrev pub WordsAnsweredApart : Type 0
+WordsAnsweredApart = (bounds : Bounds) (s : StatedSetup) (t : Tid) (env : Option EnvId) (function : ℕ) (xs : List Operand)
+    (those : ℕ → Bool) (d e : List Event) → is_apart_row (slice_get functions function) ≡ true → those t.0 ≡ true
+    → is_of those env ≡ true → AllByRecursion (IsSame those d e) xs
+    → concerning those (facts_of d) ≡ concerning those (facts_of e)
+    → asked bounds s (parts_of (facts_of d)) t env function (arguments_of t d xs)
+    ≡ asked bounds s (parts_of (facts_of e)) t env function (arguments_of t e xs)

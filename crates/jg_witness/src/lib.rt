@@ -13,6 +13,7 @@ mod witness;
 
 pub use operand::Operand;
 pub use promises::{
-    handed_means, lapsed_means_nothing, nameless_is_dead, no_word_revived, words_pass_still,
+    handed_means, lapsed_means_nothing, nameless_is_dead, no_word_revived, words_answered_apart,
+    words_pass_still,
 };
 pub use witness::Witness;

@@ -1,6 +1,6 @@
 //! What holds whatever happened, each as the contract of a function that does nothing.
 
-ghost use Rattle.jg_witness.specs.Laws.{HandedMeans, LapsedMeansNothing, NamelessIsDead, NoWordRevived, WordsPassStill};
+ghost use Rattle.jg_witness.specs.Laws.{HandedMeans, LapsedMeansNothing, NamelessIsDead, NoWordRevived, WordsAnsweredApart, WordsPassStill};
 
 /// A word whose reference ended unseen means nothing.
 pub fn lapsed_means_nothing()
@@ -25,4 +25,10 @@ pub fn nameless_is_dead()
 /// A question about words that passed passes still, until one of them is handed out anew or a fact unsettles it.
 pub fn words_pass_still()
     ensures { WordsPassStill }
+{}
+
+/// A question about words is answered by what its thread did, and by what those did who were handed its references:
+/// whatever the machine does of other threads meanwhile, and in which order.
+pub fn words_answered_apart()
+    ensures { WordsAnsweredApart }
 {}
