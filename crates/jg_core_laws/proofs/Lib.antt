@@ -3,3 +3,4 @@ pub mod Meanings
 mod Classes
 pub mod Judged
 pub mod Leases
+pub mod Brief
