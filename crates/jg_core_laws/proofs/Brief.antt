@@ -2,6 +2,7 @@
 use Rattle.std.proofs.Common.{ℕ, ◌≡◌, ◌≢◌, ◌+◌, Bool, true, false, List, [], ◌∷◌, Option, Some, None, refl, ap, sym, ◌∙◌, subst, arith, eqb-true, if◌then◌else◌}
 use Rattle.std.specs.Prelude.{◌==◌, ◌&&◌, ◌||◌, not, cond, nat_lt}
 use Rattle.std.specs.List.{list_any, find, AllByRecursion}
+use Rattle.std.specs.Cmp.{both_ways}
 use Rattle.std.specs.Option.{is_some}
 use Rattle.std.proofs.lemmas.Bool.Decides.{nat_tests}
 use Rattle.jg_words.specs.declared.thread.Tid.{Tid}
@@ -19,7 +20,10 @@ use Rattle.jg_policy.specs.declared.access.Operation.TheVariants.{Register}
 use Rattle.jg_table_threads.specs.History as threads
 use Rattle.jg_table_locals.specs.History as locals
 use Rattle.jg_table_locals.specs.History.{Act, Make, Delete, by, acts_of, live, making, Making, seen_after, survives, local_if_live, object_of}
-use Rattle.jg_table_locals.proofs.Callers.{acts_more, acts_same, each_thread}
+use Rattle.jg_table_locals.proofs.Callers.{acts_more, acts_same, each_thread, live_below, held_law}
+use Rattle.jg_table_threads.proofs.Callers.{is_pending_law}
+use Rattle.jg_rules.specs.Holding.{is_root}
+use Rattle.jg_laws.proofs.Kept.{Below}
 use Rattle.jg_table_buffers.specs.History.{same_ref}
 use Rattle.jg_table_buffers.specs.declared.family.Family.{Family}
 use Rattle.jg_table_buffers.specs.declared.family.Family.TheVariants.{Elements, Chars, UtfChars, ArrayCritical, StringCritical}
@@ -43,8 +47,13 @@ use Rattle.jg_judge.specs.declared.argument.Bounds.{Bounds}
 use Rattle.jg_judge.specs.Asked.{Judged, judged, paired, allowed, first_reference, first_buffer}
 use Rattle.jg_judge.specs.Broken.{broken, verdict, by_caller, wrong_thread, detached, in_critical, while_pending, is_wrong_kind, is_wrong_buffer, is_refused_buffer, is_out_of_bounds, is_wrong_value, is_wrong_item, buffer_meant, bad_argument, pinned, not_owner, bad_frame, no_access, not_linked, class_by_name, native_by_name}
 use Rattle.jg_core.specs.declared.fact.Fact.{Fact}
-use Rattle.jg_core.specs.Facts.{on, parts_of, History, handed_on, lost_on, is_in_being}
-use Rattle.jg_core_laws.specs.Laws.{references, next_local, with_local, briefly, BriefCanBe, BriefIsUnseen, IsAsBefore, BriefLeavesAll, BriefMayEnd}
+use Rattle.jg_core.specs.declared.fact.Fact.TheVariants as facts
+use Rattle.jg_core.specs.declared.fact.Fact.TheVariants.{Checked}
+use Rattle.jg_core.specs.declared.fact.Checked.{Checked as Check}
+use Rattle.jg_core.specs.declared.fact.Checked.TheVariants as checked
+use Rattle.jg_core.specs.Facts.{parts_of, History, handed_on, lost_on, is_in_being, is_attached, is_kept_here, is_so, can_be}
+use Rattle.jg_core.proofs.Each.{each_told, keeps_below}
+use Rattle.jg_core_laws.specs.Laws.{references, next_local, with_local, briefly, BriefCanBe, BriefIsUnseen, IsAsBefore, BriefLeavesAll, BriefIsPassedBy, BriefMayEnd, speaks_of}
 use Rattle.jg_core_laws.proofs.Meanings.{spares, survives_more}
 use Rattle.jg_core_laws.proofs.Classes.{kind_same}
 use Rattle.jg_core_laws.proofs.Judged.{each_judged}
@@ -366,6 +375,102 @@ module _ (bounds : Bounds) (s : StatedSetup) (t : Tid) (r : Ref) (p q : Parts) (
 pub brief_is_unseen : BriefIsUnseen
 brief_is_unseen bounds s t o w u env row xs apart =
     verdict_same bounds s t (next_local t w) (parts_of w) (parts_of (briefly t o w)) (brief_leaves_all t o w) u env row xs apart
+
+-- ---- what can be told next
+
+not_ended : (m o : ℕ) (acts : List Act) → live m acts ≡ None → live m acts ≡ Some o → ⊥
+not_ended m o acts none is = absurd cc
+
+module _ (s : StatedSetup) (t : Tid) (o : ObjId) (p : Parts) (below : Below p) where
+  attached_same : (u : ℕ) → is_attached (q t o p) u ≡ is_attached p u
+  attached_same u = threads_same threads.attached (λ acts. refl) t.0 u p.threads
+
+  -- no thread's local was the one
+  apart_if_live : (u m x : ℕ) → live m (acts_of u p.locals) ≡ Some x → ((t.0 == u) && (n t o p == m)) ≡ false
+  apart_if_live u m x is = by_thread (t.0 == u) refl
+    where
+      by_thread : (same : Bool) → (t.0 == u) ≡ same → (same && (n t o p == m)) ≡ false
+      by_thread false own = refl
+      by_thread true own =
+          let less = live_below (next_ref p t.0) m x (acts_of t.0 p.locals) (below t.0)
+              (subst (λ (v : ℕ). live m (acts_of v p.locals) ≡ Some x) (sym (eqb-true t.0 u own)) is) in
+          grind (arith, nat_tests, less)
+
+  held_later : (x : ℕ) → locals.holds_object p.locals x ≡ true → locals.holds_object (q t o p).locals x ≡ true
+  held_later x is =
+      let there = (held_law p.locals x).0 is in
+      (held_law (q t o p).locals x).1
+      (there.0, there.1, live_same t.0 (n t o p) o.0 there.0 there.1 p.locals (apart_if_live there.0 there.1 x there.2) ∙ there.2)
+
+  held_before : (x : ℕ) → locals.holds_object (q t o p).locals x ≡ true → locals.holds_object p.locals x ≡ true
+  held_before x is =
+      let there = (held_law (q t o p).locals x).0 is in
+      by_this ((t.0 == there.0) && (n t o p == there.1)) there.0 there.1 refl there.2
+    where
+      by_this : (same : Bool) (u m : ℕ) → ((t.0 == u) && (n t o p == m)) ≡ same → live m (acts_of u (q t o p).locals) ≡ Some x
+          → locals.holds_object p.locals x ≡ true
+      by_this false u m other is =
+          (held_law p.locals x).1 (u, m, sym (live_same t.0 (n t o p) o.0 u m p.locals other) ∙ is)
+      by_this true u m same is =
+          let whose : t.0 ≡ u = eqb-true t.0 u (grind (arith, nat_tests, same)) in
+          let which : n t o p ≡ m = eqb-true (n t o p) m (grind (arith, nat_tests, same)) in
+          absurd (not_ended m x (acts_of u (q t o p).locals)
+          (subst (λ (v : ℕ). live v (acts_of u (q t o p).locals) ≡ None) which
+          (subst (λ (v : ℕ). live (n t o p) (acts_of v (q t o p).locals) ≡ None) whose
+          (rw (own_acts t.0 (n t o p) o.0 p.locals) (brief_ends (n t o p) o.0 (acts_of t.0 p.locals))))) is)
+
+  locals_held : (x : ℕ) → locals.holds_object (q t o p).locals x ≡ locals.holds_object p.locals x
+  locals_held x = both_ways (locals.holds_object (q t o p).locals x) (locals.holds_object p.locals x) (held_before x) (held_later x)
+
+  pending_later : (x : ℕ) → threads.is_pending p.threads x ≡ true → threads.is_pending (q t o p).threads x ≡ true
+  pending_later x is =
+      let there = (is_pending_law p.threads x).0 is in
+      (is_pending_law (q t o p).threads x).1 (there.0, pending_same t o p there.0 ∙ there.1)
+
+  pending_before : (x : ℕ) → threads.is_pending (q t o p).threads x ≡ true → threads.is_pending p.threads x ≡ true
+  pending_before x is =
+      let there = (is_pending_law (q t o p).threads x).0 is in
+      (is_pending_law p.threads x).1 (there.0, sym (pending_same t o p there.0) ∙ there.1)
+
+  all_pending : (x : ℕ) → threads.is_pending (q t o p).threads x ≡ threads.is_pending p.threads x
+  all_pending x = both_ways (threads.is_pending (q t o p).threads x) (threads.is_pending p.threads x) (pending_before x) (pending_later x)
+
+  root_same : (x : ℕ) → is_root (q t o p) x ≡ is_root p x
+  root_same x = rw (locals_held x, all_pending x) refl
+
+  kept_same : (kept : Option ObjId) → is_kept_here s (q t o p) kept ≡ is_kept_here s p kept
+  kept_same None = refl
+  kept_same (Some x) = refl
+
+  being_same : (other : Ref) → same_ref (r t o p) other ≡ false → is_in_being (q t o p) other ≡ is_in_being p other
+  being_same Null apart = refl
+  being_same (To kind maker m) apart = rw (named_same t o p maker.0 (To kind maker m) apart) refl
+
+  so_same : (check : Check) → speaks_of (r t o p) (Checked check) ≡ false → is_so s (q t o p) check ≡ is_so s p check
+  so_same (checked.Local u m object) apart = rw (attached_same u.0, live_same t.0 (n t o p) o.0 u.0 m p.locals apart) refl
+  so_same (checked.Pending u object) apart = rw (attached_same u.0, pending_same t o p u.0) refl
+  so_same (checked.Length x m) apart = refl
+
+  can_same : (x : Fact) → speaks_of (r t o p) x ≡ false → can_be s (q t o p) x ≡ can_be s p x
+  can_same (facts.Begin u) apart = rw (attached_same u.0) refl
+  can_same (facts.End u) apart = attached_same u.0
+  can_same (facts.Enter u) apart = attached_same u.0
+  can_same (facts.Leave u kept) apart = rw (attached_same u.0, depth_same t o p u.0, kept_same kept) refl
+  can_same (facts.Push u room) apart = attached_same u.0
+  can_same (facts.Pop u kept) apart = rw (attached_same u.0, frames_same t o p u.0, kept_same kept) refl
+  can_same (facts.Ensure u room) apart = attached_same u.0
+  can_same (facts.Raise u x) apart = rw (attached_same u.0) refl
+  can_same (facts.Calm u) apart = attached_same u.0
+  can_same (facts.Hand u kind x) apart = rw (attached_same u.0) refl
+  can_same (facts.Lost other) apart = being_same other apart
+  can_same (facts.Lend u family x via m) apart = rw (attached_same u.0) refl
+  can_same (facts.Own u x) apart = rw (attached_same u.0) refl
+  can_same (facts.Gone x) apart = rw (root_same x.0) refl
+  can_same (Checked check) apart = so_same check apart
+  can_same x apart = refl
+
+pub brief_is_passed_by : BriefIsPassedBy
+brief_is_passed_by s t o w x could apart = can_same s t o (parts_of w) (each_told _ s (keeps_below s) (λ u. tt) w could) x apart
 
 -- ---- its deletion
 

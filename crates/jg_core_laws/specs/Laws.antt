@@ -22,8 +22,9 @@ use Rattle.jg_judge.specs.declared.argument.Argument.TheVariants.{Reference, Buf
 use Rattle.jg_judge.specs.declared.argument.Bounds.{Bounds}
 use Rattle.jg_judge.specs.Broken.{verdict, by_caller}
 use Rattle.jg_core.specs.declared.fact.Fact.{Fact}
-use Rattle.jg_core.specs.declared.fact.Fact.TheVariants.{Begin, End, Leave, Pop, Raise, Hand, Lost, Lend, Gone}
-use Rattle.jg_core.specs.Facts.{parts_of, History}
+use Rattle.jg_core.specs.declared.fact.Fact.TheVariants.{Begin, End, Leave, Pop, Raise, Hand, Lost, Lend, Gone, Checked}
+use Rattle.jg_core.specs.declared.fact.Checked.TheVariants as checked
+use Rattle.jg_core.specs.Facts.{parts_of, can_be, History}
 
 -- the fact may take from t what its calls need: its session, a calm state, no critical region, its frame of locals
 abbrev pub hinders : ℕ → Fact → Bool
@@ -125,6 +126,17 @@ pub record IsAsBefore (t : Tid) (r : Ref) (p q : Parts) : Type 0 where
 
 abbrev pub BriefLeavesAll : Type 0
 BriefLeavesAll = (t : Tid) (o : ObjId) (w : List Fact) → IsAsBefore t (next_local t w) (parts_of w) (parts_of (briefly t o w))
+
+-- the fact speaks of the reference
+abbrev pub speaks_of : Ref → Fact → Bool
+speaks_of r (Lost q) = same_ref r q
+speaks_of r (Checked (checked.Local t n object)) = same_ref r (To Local t n)
+speaks_of r x = false
+
+-- what can be told next is what could be, but of it
+abbrev pub BriefIsPassedBy : Type 0
+BriefIsPassedBy = (s : StatedSetup) (t : Tid) (o : ObjId) (w : List Fact) (x : Fact) → History s w
+    → speaks_of (next_local t w) x ≡ false → can_be s (parts_of (briefly t o w)) x ≡ can_be s (parts_of w) x
 
 -- DeleteLocalRef of it passes wherever the thread may call DeleteLocalRef at all
 abbrev pub BriefMayEnd : Type 0

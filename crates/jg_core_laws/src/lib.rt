@@ -1,7 +1,7 @@
 //! What a core's answer to a question stands on. Each law is the contract of a function that does nothing.
 #![tactic(auto)]
 
-ghost use Rattle.jg_core_laws.specs.Laws.{PassesStill, BriefCanBe, BriefIsUnseen, BriefLeavesAll, BriefMayEnd};
+ghost use Rattle.jg_core_laws.specs.Laws.{PassesStill, BriefCanBe, BriefIsUnseen, BriefLeavesAll, BriefIsPassedBy, BriefMayEnd};
 
 /// A question that passed passes still, until a fact unsettles it: one of its own thread that changes what the thread
 /// may call, or one that ends a reference among its operands.
@@ -23,6 +23,11 @@ pub fn brief_is_unseen()
 /// Nor does anything differ of what is known, but the number of its thread's next reference.
 pub fn brief_leaves_all()
     ensures { BriefLeavesAll }
+{}
+
+/// So what can be told next is what could be told without it, but of the reference itself.
+pub fn brief_is_passed_by()
+    ensures { BriefIsPassedBy }
 {}
 
 /// Its deletion passes, where the thread may call DeleteLocalRef at all.
