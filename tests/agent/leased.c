@@ -26,6 +26,10 @@ void deletes_global(JNIEnv *env, jobject it) {
     E->DeleteGlobalRef(env, it);
 }
 
+void pushes(JNIEnv *env) {
+    E->PushLocalFrame(env, 4);
+}
+
 void pops(JNIEnv *env) {
     E->PopLocalFrame(env, NULL);
 }

@@ -1,9 +1,8 @@
 -- A local that ended at once is as one that was never handed out.
 use Rattle.std.proofs.Common.{ℕ, ◌≡◌, ◌≢◌, ◌+◌, Bool, true, false, List, [], ◌∷◌, Option, Some, None, refl, ap, sym, ◌∙◌, subst, arith, eqb-true, if◌then◌else◌}
-use Rattle.std.specs.Prelude.{◌==◌, ◌&&◌, ◌||◌, not, cond, nat_lt}
+use Rattle.std.specs.Prelude.{◌==◌, ◌&&◌, ◌||◌, not}
 use Rattle.std.specs.List.{list_any, find, AllByRecursion}
 use Rattle.std.specs.Cmp.{both_ways}
-use Rattle.std.specs.Option.{is_some}
 use Rattle.std.proofs.lemmas.Bool.Decides.{nat_tests}
 use Rattle.jg_words.specs.declared.thread.Tid.{Tid}
 use Rattle.jg_words.specs.declared.thread.EnvId.{EnvId}
@@ -16,7 +15,6 @@ use Rattle.jg_words.specs.declared.reference.Kind.TheVariants.{Local, Global, We
 use Rattle.jg_words.specs.declared.rule.Rule.{Rule}
 use Rattle.jg_words.specs.declared.rule.Rule.TheVariants.{WrongThread, Detached, InCritical, Pending, ForeignLocal, DeadReference, WrongRefKind, NullReference, WrongType, BadField, BadBuffer, BadArgument, Pinned, NotOwner, BadFrame, NoNativeAccess, NotLinked}
 use Rattle.jg_policy.specs.Stated.{StatedSetup}
-use Rattle.jg_policy.specs.declared.access.Operation.TheVariants.{Register}
 use Rattle.jg_table_threads.specs.History as threads
 use Rattle.jg_table_locals.specs.History as locals
 use Rattle.jg_table_locals.specs.History.{Act, Make, Delete, by, acts_of, live, making, Making, seen_after, survives, local_if_live, object_of}
@@ -32,8 +30,8 @@ use Rattle.jg_laws.proofs.Acts.{did_more, did_same}
 use Rattle.jg_rules.specs.declared.named.Named.{Named}
 use Rattle.jg_rules.specs.declared.named.Named.TheVariants.{Nothing, Null as NamesNull, Object}
 use Rattle.jg_rules.specs.Parts.{Parts}
-use Rattle.jg_rules.specs.Names.{names, named_by, next_ref, session, pending, depth, open_frames, object_in, object_named, class_by}
-use Rattle.jg_rules.specs.Buffers.{buffer_named, is_open_and, is_of_family, is_of_object, is_anothers, item_type, is_value_of_type}
+use Rattle.jg_rules.specs.Names.{names, named_by, next_ref, session, pending, depth, open_frames, object_in, object_named}
+use Rattle.jg_rules.specs.Buffers.{buffer_named, is_open_and, is_of_family, is_of_object, is_anothers, item_type}
 use Rattle.jg_rules.specs.Rules.{rules_in_order, is_nothing, is_null, is_not_owned, is_linked}
 use Rattle.jg_rows.specs.declared.row.Takes.{Takes}
 use Rattle.jg_rows.specs.declared.row.Takes.TheVariants.{Nullable, Buffer as TakesBuffer, Readable, Writable, Item, Value}
@@ -45,15 +43,15 @@ use Rattle.jg_judge.specs.declared.argument.Argument.{Argument}
 use Rattle.jg_judge.specs.declared.argument.Argument.TheVariants.{Reference, Buffer, Number, Value as ValueOf, Class, List as ListOf}
 use Rattle.jg_judge.specs.declared.argument.Bounds.{Bounds}
 use Rattle.jg_judge.specs.Asked.{Judged, judged, paired, allowed, first_reference, first_buffer}
-use Rattle.jg_judge.specs.Broken.{broken, verdict, by_caller, wrong_thread, detached, in_critical, while_pending, is_wrong_kind, is_wrong_buffer, is_refused_buffer, is_out_of_bounds, is_wrong_value, is_wrong_item, buffer_meant, bad_argument, pinned, not_owner, bad_frame, no_access, not_linked, class_by_name, native_by_name}
+use Rattle.jg_judge.specs.Broken.{broken, verdict, by_caller, wrong_thread, detached, in_critical, while_pending, is_wrong_kind, is_wrong_buffer, is_refused_buffer, is_out_of_bounds, buffer_meant, bad_argument, pinned, not_owner, bad_frame, no_access, not_linked, class_by_name, native_by_name}
 use Rattle.jg_core.specs.declared.fact.Fact.{Fact}
 use Rattle.jg_core.specs.declared.fact.Fact.TheVariants as facts
 use Rattle.jg_core.specs.declared.fact.Fact.TheVariants.{Checked}
 use Rattle.jg_core.specs.declared.fact.Checked.{Checked as Check}
 use Rattle.jg_core.specs.declared.fact.Checked.TheVariants as checked
-use Rattle.jg_core.specs.Facts.{parts_of, History, handed_on, lost_on, is_in_being, is_attached, is_kept_here, is_so, can_be}
+use Rattle.jg_core.specs.Facts.{parts_of, handed_on, lost_on, is_in_being, is_attached, is_kept_here, is_so, can_be}
 use Rattle.jg_core.proofs.Each.{each_told, keeps_below}
-use Rattle.jg_core_laws.specs.Laws.{references, next_local, with_local, briefly, BriefCanBe, BriefIsUnseen, IsAsBefore, BriefLeavesAll, BriefIsPassedBy, BriefMayEnd, speaks_of}
+use Rattle.jg_core_laws.specs.Laws.{references, next_local, briefly, BriefCanBe, BriefIsUnseen, IsAsBefore, BriefLeavesAll, BriefIsPassedBy, BriefMayEnd, speaks_of}
 use Rattle.jg_core_laws.proofs.Meanings.{spares, survives_more}
 use Rattle.jg_core_laws.proofs.Classes.{kind_same}
 use Rattle.jg_core_laws.proofs.Judged.{each_judged}

@@ -22,7 +22,7 @@ use Rattle.jg_rules.specs.Rules.{is_nothing}
 use Rattle.jg_laws.proofs.Kept.{Below, GlobalsBelow}
 use Rattle.jg_laws.proofs.Fresh.{kind_below, same_pair}
 use Rattle.jg_core.specs.declared.fact.Fact.{Fact}
-use Rattle.jg_core.specs.declared.fact.Fact.TheVariants.{Begin, End, Enter, Leave, Push as PushFact, Pop, Ensure as EnsureFact, Calm, Hand, Lost, Gone}
+use Rattle.jg_core.specs.declared.fact.Fact.TheVariants.{Begin, End, Enter, Leave, Push as PushFact, Pop, Ensure as EnsureFact, Hand, Lost, Gone}
 use Rattle.jg_core.specs.Facts.{on, handed_on, kept_on, lost_on}
 use Rattle.jg_core_laws.specs.Laws.{hinders, clouds}
 use Rattle.jg_core_laws.proofs.Callers.{not_same}
