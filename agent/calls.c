@@ -849,7 +849,7 @@ static int is_copy(const struct call *call) {
             call->function == JG_FN_NewWeakGlobalRef);
 }
 
-/* Whether the core needn't be told of the result yet: it is a local that is young (nursery.c), and nothing was thrown. */
+/* Whether the core needn't be told of the result yet: it is a local that is young (nursery.c), and none was thrown. */
 static int is_young(struct call *call, jobject result) {
     if (call->verdict.rule != JG_PASSED || call->row->effect != EFFECT_HANDS || call->row->detail != JG_LOCAL ||
         core_hears_all || call->thread->depth == 0) {

@@ -2,8 +2,8 @@
  * nursery.h: local references that the core isn't told of (docs/AGENT.md, "The nursery").
  *
  * A local that a judged call hands out in a native method is young: the core is told of it only once its number is
- * needed, or once its absence could be seen. One that is deleted before is never told. By the laws `brief_is_unseen` and
- * `brief_is_passed_by` of jg_core_laws that changes no verdict and no later fact, but for the numbers of references.
+ * needed, or once its absence could be seen. One that is deleted before is never told. By the laws `brief_is_unseen`
+ * and `brief_is_passed_by` of jg_core_laws that changes no verdict, and nothing that can be told next.
  *
  * What is known of them stands in a table of their thread's, by their handles. A place in it stays when its reference
  * ends, so that a later use of the handle can be told, and serves again when the machine hands out the handle again.
