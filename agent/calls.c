@@ -885,6 +885,12 @@ static void hands(struct call *call, jobject result) {
     }
 }
 
+jobject call_repeated(const struct asked *it, const struct lease *lease, JNIEnv *env, jobject result) {
+    struct call call;
+    call_repeats(&call, it, lease, env);
+    return call_hands(&call, result);
+}
+
 jobject call_hands(struct call *call, jobject result) {
     struct kept kept;
     keep(&kept);

@@ -257,8 +257,8 @@ class Wrapper:
         yield f'const struct lease *lease = {f"{bounded} ? {found} : NULL" if bounded else found};'
         yield 'if (lease != NULL) {'
         if self.is_quick():
-            yield from [self.resulting(), *self.noted(), 'if (nursery_takes(&asked, result, lease)) {', done, '}']
-            yield from ['struct call call;', 'call_repeats(&call, &asked, lease, env);', *self.returned()]
+            yield from [self.resulting(), *self.noted(), 'if (nursery_takes(result, lease)) {', done, '}']
+            yield 'return call_repeated(&asked, lease, env, result);'
         elif self.row.effect.name == 'Hands':
             yield from ['struct call call;', 'call_repeats(&call, &asked, lease, env);', *made, *self.returned()]
         elif self.row.throws != 'Never' or self.row.runs == 'Java':

@@ -18,7 +18,7 @@
 
 #include <stdlib.h>
 
-enum { FEWEST_BITS = 6, MOST_BITS = 10, CLAIM_BITS = 16 };
+enum { FEWEST_BITS = 6, MOST_BITS = 11, CLAIM_BITS = 16 };
 
 static struct thread *_Atomic claims[1 << CLAIM_BITS];
 
@@ -66,15 +66,15 @@ static inline void ends(struct nursery *in, struct young *it, enum young_state s
     in->live--;
     if (in->live == 0) {
         in->made_count = 0;
-    } else if (in->made[in->made_count - 1].serial == it->serial) {
+    } else if (in->made[in->made_count - 1] == it->handle) {
         in->made_count--;
     }
 }
 
-/* The one that was made under this serial number, if it lives. */
-static struct young *living(const struct nursery *in, const struct newborn *made) {
-    struct young *it = young_of(in, made->handle);
-    return it != NULL && it->serial == made->serial && state_of(it) == YOUNG_LIVE ? it : NULL;
+/* The one of this handle, if it lives. */
+static struct young *living(const struct nursery *in, uintptr_t handle) {
+    struct young *it = young_of(in, handle);
+    return it != NULL && state_of(it) == YOUNG_LIVE ? it : NULL;
 }
 
 /* ---- telling ---- */
@@ -180,7 +180,7 @@ void nursery_tell(struct thread *thread) {
     /* What is told is no longer the last of them, so that none is left out. */
     uint32_t count = in->made_count;
     for (uint32_t at = 0; at < count; at++) {
-        struct young *it = living(in, &in->made[at]);
+        struct young *it = living(in, in->made[at]);
         if (it != NULL) {
             tell_live(thread, it);
         }
@@ -197,8 +197,8 @@ static uint32_t take_other(const struct thread *thread, uintptr_t handle, struct
     threads_lock();
     struct thread *of = *claim_of(handle);
     struct young *it = of != NULL && of != thread ? young_of(&of->nursery, handle) : NULL;
-    if (it != NULL && state_of(it) != YOUNG_NOT && state_of(it) != YOUNG_NAMED_HELD && it->told != it->serial) {
-        it->told = it->serial;
+    if (it != NULL && state_of(it) != YOUNG_NOT && state_of(it) != YOUNG_NAMED_HELD && !it->is_told) {
+        it->is_told = 1;
         *found = *it;
         number = of->number;
     }
@@ -274,6 +274,11 @@ static void move(struct nursery *in, uint32_t bits) {
     free(old.places);
 }
 
+/* Whether there is room for one more: of four places three may be in use. */
+static int has_place(const struct nursery *in) {
+    return 4 * (in->count + 1) <= (uint32_t)3 << in->bits;
+}
+
 /*
  * Makes room for one more. Where the table can't grow, what is dead is told, and has a name from then on: as if it had
  * been told at once. Whether there is room.
@@ -286,7 +291,7 @@ static int make_place(struct thread *thread) {
         make_table(in, FEWEST_BITS);
         threads_unlock();
     }
-    if (2 * (in->count + 1) <= (uint32_t)1 << in->bits) {
+    if (has_place(in)) {
         return 1;
     }
     if (in->bits < MOST_BITS) {
@@ -299,23 +304,26 @@ static int make_place(struct thread *thread) {
         }
     }
     move(in, in->bits);
-    return 2 * (in->count + 1) <= (uint32_t)1 << in->bits;
+    return has_place(in);
 }
 
-/* Makes room in the order of making: where many live, all are told. */
+/* Makes room in the order of making: where many live, all are told. One handle may stand there more than once. */
 static void make_order(struct thread *thread) {
     struct nursery *in = &thread->nursery;
-    if (2 * in->live > MOST_LIVE) {
+    if (4 * in->live > MOST_LIVE) {
         nursery_tell(thread);
         return;
     }
     uint32_t kept = 0;
     for (uint32_t at = 0; at < in->made_count; at++) {
-        if (living(in, &in->made[at]) != NULL) {
+        if (living(in, in->made[at]) != NULL) {
             in->made[kept++] = in->made[at];
         }
     }
     in->made_count = kept;
+    if (2 * kept > MOST_LIVE) {
+        nursery_tell(thread);
+    }
 }
 
 /* The handle's slots are the thread's to claim, or are claimed by it. */
@@ -353,12 +361,11 @@ static ASIDE void make_room_in_order(struct thread *thread) {
 
 /* Whether what a call at this place is handed may be young: its frame is known, and its end will be seen. */
 static inline int is_open(const struct thread *thread, const struct site *site) {
-    const struct activation *newest = thread->depth > 0 ? &thread->activations[thread->depth - 1] : NULL;
-    return newest != NULL && newest->is_told && newest->native->is_judged && natives_are_seen() && !core_hears_all &&
-           thread->frame_count > 0 && !site->library->is_tool;
+    return thread->depth > 0 && thread->activations[thread->depth - 1].is_nursing && !site->library->is_tool;
 }
 
-int nursery_makes(struct thread *thread, jobject handle, uint32_t function, const struct site *site, uint32_t bytes) {
+static inline int make(struct thread *thread, jobject handle, uint32_t function, const struct site *site,
+                       uint32_t bytes) {
     struct nursery *in = &thread->nursery;
     if (!is_open(thread, site)) {
         return 0;
@@ -375,23 +382,25 @@ int nursery_makes(struct thread *thread, jobject handle, uint32_t function, cons
     }
     /* One that lived there ended unseen, since the machine handed out the handle again. */
     in->live += state_of(it) != YOUNG_LIVE;
+    in->made[in->made_count++] = address_of(handle);
     atomic_store_explicit(&it->made, site, memory_order_relaxed);
+    atomic_store_explicit(&it->is_told, 0, memory_order_relaxed);
     it->made_by = (uint16_t)function;
     it->bytes = bytes;
-    it->serial = ++in->serial;
-    in->made[in->made_count++] = (struct newborn){address_of(handle), it->serial};
     set_state(it, YOUNG_LIVE);
     return 1;
 }
 
-int nursery_takes(const struct asked *it, jobject result, const struct lease *lease) {
-    struct thread *thread = threads_known();
-    const struct site *site = result != NULL ? sites_recent(thread, it->at) : NULL;
-    if (site == NULL) {
+int nursery_makes(struct thread *thread, jobject handle, uint32_t function, const struct site *site, uint32_t bytes) {
+    return make(thread, handle, function, site, bytes);
+}
+
+int nursery_takes(jobject result, const struct lease *lease) {
+    if (result == NULL) {
         return 0;
     }
-    uint32_t bytes = it->function == JG_FN_NewLocalRef ? quarantine_size_of(lease->object) : UNKNOWN_BYTES;
-    return nursery_makes(thread, result, it->function, site, bytes);
+    uint32_t bytes = lease->function == JG_FN_NewLocalRef ? quarantine_size_of(lease->object) : UNKNOWN_BYTES;
+    return make(threads_known(), result, lease->function, lease->site, bytes);
 }
 
 /* ---- ending ---- */
@@ -405,6 +414,31 @@ static ASIDE uint32_t ask_bytes(JNIEnv *env, jobject handle) {
     return quarantine_counted(size);
 }
 
+/* What was held back longest is given back to the machine, and is of the same frame: this takes its place. */
+static inline int hold_in_turn(struct thread *thread, JNIEnv *env, uintptr_t handle, uint32_t bytes) {
+    struct frame *frame = &thread->frames[thread->frame_count - 1];
+    if (bytes > 0 || thread->held_count == 0 || thread->held_count < (size_t)options.quarantine || frame->room == 0) {
+        return 0;
+    }
+    struct held_local *oldest = &thread->held[thread->held_first];
+    uintptr_t given = oldest->handle;
+    if (!oldest->is_young || oldest->bytes > 0 || oldest->frame != frame->serial) {
+        return 0;
+    }
+    oldest->handle = handle;
+    frame->room--;
+    thread->held_first = thread->held_first + 1 < thread->held_count ? thread->held_first + 1 : 0;
+    if (nursery_lets_go(thread, given)) {
+        machine->DeleteLocalRef(env, (jobject)given);
+    }
+    return 1;
+}
+
+static ASIDE int hold(struct thread *thread, JNIEnv *env, uintptr_t handle, uint32_t bytes) {
+    const struct held_local held = {handle, 0, thread->frames[thread->frame_count - 1].serial, bytes, 1};
+    return threads_hold_local(thread, env, &held);
+}
+
 int nursery_deletes(JNIEnv *env, jobject handle, uintptr_t at, uintptr_t frame) {
     struct thread *thread = threads_known();
     if (thread == NULL || thread->nursery.live == 0 || !is_live) {
@@ -416,18 +450,17 @@ int nursery_deletes(JNIEnv *env, jobject handle, uintptr_t at, uintptr_t frame) 
         !threads_is_caught_up(thread, env, frame)) {
         return 0;
     }
-    struct held_local held = {address_of(handle), it->serial, thread->frames[thread->frame_count - 1].serial, it->bytes,
-                              1};
-    if (held.bytes == UNKNOWN_BYTES && options.quarantine > 0) {
+    uint32_t bytes = it->bytes;
+    if (bytes == UNKNOWN_BYTES && options.quarantine > 0) {
         if (thread->is_pending) {
             /* -Xcheck:jni would warn of the question. */
             return 0;
         }
-        held.bytes = ask_bytes(env, handle);
+        bytes = ask_bytes(env, handle);
     }
     threads_count_passed(thread, 1);
     ends(&thread->nursery, it, YOUNG_HELD, JG_FN_DeleteLocalRef, site);
-    if (!threads_hold_local(thread, env, &held)) {
+    if (!hold_in_turn(thread, env, address_of(handle), bytes) && !hold(thread, env, address_of(handle), bytes)) {
         set_state(it, YOUNG_DEAD);
         machine->DeleteLocalRef(env, handle);
     }
@@ -446,7 +479,7 @@ int nursery_lost(struct thread *thread, jobject handle, uint32_t function, uintp
 void nursery_pops(struct thread *thread, uint16_t by, const struct site *site) {
     struct nursery *in = &thread->nursery;
     while (in->live > 0 && in->made_count > 0) {
-        struct young *it = living(in, &in->made[in->made_count - 1]);
+        struct young *it = living(in, in->made[in->made_count - 1]);
         if (it != NULL) {
             ends(in, it, YOUNG_DEAD, by, site);
         } else {
@@ -456,16 +489,13 @@ void nursery_pops(struct thread *thread, uint16_t by, const struct site *site) {
     in->made_count = 0;
 }
 
-int nursery_lets_go(struct thread *thread, uintptr_t handle, uint64_t serial) {
+int nursery_lets_go(struct thread *thread, uintptr_t handle) {
     struct young *it = young_of(&thread->nursery, handle);
-    if (it == NULL || it->serial != serial) {
-        return 0;
-    }
-    if (state_of(it) == YOUNG_HELD) {
+    if (it != NULL && state_of(it) == YOUNG_HELD) {
         set_state(it, YOUNG_DEAD);
         return 1;
     }
-    if (state_of(it) == YOUNG_NAMED_HELD) {
+    if (it != NULL && state_of(it) == YOUNG_NAMED_HELD) {
         set_state(it, YOUNG_NOT);
         return names_let_go(handle, it->number);
     }
@@ -508,8 +538,8 @@ void nursery_ends(struct thread *thread) {
     threads_lock();
     give_claims(thread);
     struct young *places = in->places;
-    struct newborn *made = in->made;
-    *in = (struct nursery){.serial = in->serial};
+    uintptr_t *made = in->made;
+    *in = (struct nursery){.places = NULL};
     threads_unlock();
     free(places);
     free(made);

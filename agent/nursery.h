@@ -15,7 +15,6 @@
 
 #include <stdatomic.h>
 
-struct asked;
 struct lease;
 struct site;
 struct thread;
@@ -28,42 +27,34 @@ enum young_state {
     YOUNG_NAMED_HELD /* the same as held; and it has a name, since it was used after its end */
 };
 
-/* A local reference. Its own thread alone writes it, but for what another one has told of it. Others read it. */
+/* A local reference. Its own thread alone writes it, but for what another one had told of it. Others read it. */
 struct young {
     _Atomic uintptr_t handle; /* 0: an empty place */
     const struct site *_Atomic made;
     const struct site *_Atomic ended;
-    uint64_t number; /* of one that has a name: the core's */
-    uint64_t serial; /* greater than that of any of its thread before it */
-    uint64_t told;   /* by another thread: the serial number of the one that it had told. Under the lock of threads */
-    uint32_t bytes;  /* of its object, or UNKNOWN_BYTES */
+    uint32_t bytes;   /* of its object, or UNKNOWN_BYTES */
     uint16_t made_by; /* functions, by their numbers */
-    uint16_t ended_by;
     _Atomic uint8_t state;
+    _Atomic uint8_t is_told; /* another thread had it told */
+    uint16_t ended_by;
+    uint64_t number; /* of one that has a name: the core's */
 };
 
 enum { MOST_LIVE = 256 };
 
-/* One that lives, or ended since. */
-struct newborn {
-    uintptr_t handle;
-    uint64_t serial;
-};
-
 /* The young ones of a thread. */
 struct nursery {
     struct young *places; /* a hash table; NULL where there are none */
-    struct newborn *made; /* in the order of their making, each that lives among them: room for MOST_LIVE */
+    uintptr_t *made;      /* handles in the order of their making, each that lives among them: room for MOST_LIVE */
     uint32_t bits;        /* the table has 2 to this many places */
     uint32_t count;       /* so many have a handle */
     uint32_t made_count;
     uint32_t live;
-    uint64_t serial;
     int has_dropped; /* a handle that had a place has none any more */
 };
 
 /* A call that has a lease was handed a local, and threw nothing. Whether it is young. If not, it is to be told. */
-int nursery_takes(const struct asked *it, jobject result, const struct lease *lease);
+int nursery_takes(jobject result, const struct lease *lease);
 
 /* The same of a call that passed at this place; of what object it is may be known. */
 int nursery_makes(struct thread *thread, jobject handle, uint32_t function, const struct site *site, uint32_t bytes);
@@ -89,8 +80,8 @@ int nursery_lost(struct thread *thread, jobject handle, uint32_t function, uintp
 /* The newest frame is popped, and those that live end with it. */
 void nursery_pops(struct thread *thread, uint16_t by, const struct site *site);
 
-/* What was held back under this serial number is dead. Whether the machine is to delete it. */
-int nursery_lets_go(struct thread *thread, uintptr_t handle, uint64_t serial);
+/* What was held back is dead. Whether the machine is to delete it. */
+int nursery_lets_go(struct thread *thread, uintptr_t handle);
 
 /* The thread's session is about to end: what was used in it can be told now, and not later. */
 void nursery_ends(struct thread *thread);

@@ -249,7 +249,7 @@ static struct held_local *held_at(const struct thread *thread, size_t at) {
 
 /* What was held back is dead. Whether the machine is to delete it. */
 static int lets_go(struct thread *thread, const struct held_local *it) {
-    return it->is_young ? nursery_lets_go(thread, it->handle, it->number) : names_let_go(it->handle, it->number);
+    return it->is_young ? nursery_lets_go(thread, it->handle) : names_let_go(it->handle, it->number);
 }
 
 /* The bytes of what is held back, of which most are none. */
@@ -343,6 +343,7 @@ void threads_tell_enter(struct thread *thread, struct activation *activation) {
         return;
     }
     activation->is_told = 1;
+    activation->is_nursing = activation->native->is_judged && natives_are_seen() && !core_hears_all;
     thread->is_unsure = 1;
     activation->first_frame = thread->frame_count;
     thread->is_pending = 0;
@@ -456,6 +457,7 @@ static void end_session(struct thread *thread) {
     }
     for (size_t at = 0; at < thread->depth; at++) {
         thread->activations[at].is_told = 0;
+        thread->activations[at].is_nursing = 0;
         thread->activations[at].is_quiet = 0;
     }
     buffers_thread_ended(thread);

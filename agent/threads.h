@@ -45,6 +45,7 @@ struct activation {
     size_t first_frame; /* of the frames that were told, its base */
     uint32_t pushed;    /* frames that were pushed before it was told */
     uint8_t is_told;
+    uint8_t is_nursing; /* it is told, and the core needn't hear of its locals at once (nursery.c) */
     uint8_t is_quiet; /* of judged code: it made no call yet, and what it was handed is told with it */
 };
 
@@ -60,7 +61,7 @@ struct unheard {
 /* A local reference that ended and wasn't given back to the machine yet. */
 struct held_local {
     uintptr_t handle;
-    uint64_t number; /* the core's, or of a young one its serial number */
+    uint64_t number; /* the core's; 0 of a young one */
     uint64_t frame;
     uint32_t bytes;
     uint32_t is_young;
@@ -104,7 +105,7 @@ struct lease {
     uintptr_t at; /* the return address of its wrapper; 0: none */
     uint64_t sum;
     uintptr_t words[LEASED_WORDS];
-    const struct library *library;
+    const struct site *site;
     struct object *object; /* that its first operand names */
     uint32_t function;
 };
