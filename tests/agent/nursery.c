@@ -3,8 +3,8 @@
  *
  * A case has a name, what the agent is to deny, in order, and flags. Each has places of its own, for of each the first
  * denial is told. Flags: S runs only where denied calls aren't made, since HotSpot may die of the call, or of what it
- * does then no more is known; X runs alone. The references of most cases are made by a call that was made before at the
- * same place, so that the agent has a lease of it.
+ * does then no more is known; H only where what is deleted is held back; X runs alone. The references of most cases
+ * are made by a call that was made before at the same place, so that the agent has a lease of it.
  */
 #include <dlfcn.h>
 #include <jni.h>
@@ -884,7 +884,7 @@ static const struct {
     {"passed", passed, "6 CallVoidMethod", ""},
     {"globals", globals, "6 NewGlobalRef;6 NewWeakGlobalRef", "S"},
     {"weakly", weakly, "", ""},
-    {"kinds", kinds, "", ""},
+    {"kinds", kinds, "", "H"},
     {"wrong_kind", wrong_kind, "7 DeleteGlobalRef", "S"},
     {"buffers", buffers, "6 ReleaseStringUTFChars", ""},
     {"monitors", monitors, "", ""},
