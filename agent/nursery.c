@@ -25,8 +25,13 @@ static struct thread *_Atomic claims[1 << CLAIM_BITS];
 /* What stands on the way of each call is in a few instructions. The rest is elsewhere. */
 #define ASIDE __attribute__((noinline))
 
+/* The number of the claim to the handle's slots. */
+static inline uint16_t claimed_by(uintptr_t handle) {
+    return (uint16_t)((uint64_t)(handle >> 6) * 0x9E3779B97F4A7C15u >> (64 - CLAIM_BITS));
+}
+
 static inline struct thread *_Atomic *claim_of(uintptr_t handle) {
-    return &claims[(uint64_t)(handle >> 6) * 0x9E3779B97F4A7C15u >> (64 - CLAIM_BITS)];
+    return &claims[claimed_by(handle)];
 }
 
 /* ---- the table ---- */
@@ -268,7 +273,6 @@ static void move(struct nursery *in, uint32_t bits) {
             made.count++;
         }
     }
-    made.has_dropped |= made.count < old.count;
     *in = made;
     threads_unlock();
     free(old.places);
@@ -328,8 +332,14 @@ static void make_order(struct thread *thread) {
 
 /* The handle's slots are the thread's to claim, or are claimed by it. */
 static int claims_slots(struct thread *thread, uintptr_t handle) {
-    struct thread *none = NULL;
-    return atomic_compare_exchange_strong(claim_of(handle), &none, thread) || none == thread;
+    struct nursery *in = &thread->nursery;
+    struct thread *whose = NULL;
+    if (!atomic_compare_exchange_strong(claim_of(handle), &whose, thread)) {
+        return whose == thread;
+    }
+    MAKE_ROOM(in->claimed, in->claimed_count, in->claimed_room);
+    in->claimed[in->claimed_count++] = claimed_by(handle);
+    return 1;
 }
 
 /* A place for a handle that has none, or whose place isn't in use: NULL where its name is still good, or without room.
@@ -502,21 +512,6 @@ int nursery_lets_go(struct thread *thread, uintptr_t handle) {
     return 0;
 }
 
-/* The slots are nobody's. */
-static void give_claims(const struct thread *thread) {
-    const struct nursery *in = &thread->nursery;
-    for (size_t at = 0; in->has_dropped && at < (size_t)1 << CLAIM_BITS; at++) {
-        if (claims[at] == thread) {
-            claims[at] = NULL;
-        }
-    }
-    for (size_t at = 0; !in->has_dropped && at < (size_t)1 << in->bits; at++) {
-        if (in->places[at].handle != 0) {
-            *claim_of(in->places[at].handle) = NULL;
-        }
-    }
-}
-
 void nursery_ends(struct thread *thread) {
     struct nursery *in = &thread->nursery;
     if (in->places == NULL) {
@@ -535,14 +530,16 @@ void nursery_ends(struct thread *thread) {
             tell_ended(thread, it);
         }
     }
+    const struct nursery left = *in;
     threads_lock();
-    give_claims(thread);
-    struct young *places = in->places;
-    uintptr_t *made = in->made;
+    for (size_t at = 0; at < left.claimed_count; at++) {
+        claims[left.claimed[at]] = NULL;
+    }
     *in = (struct nursery){.places = NULL};
     threads_unlock();
-    free(places);
-    free(made);
+    free(left.places);
+    free(left.made);
+    free(left.claimed);
 }
 
 void nursery_each_site(const struct nursery *nursery, void (*see)(const struct site *site)) {

@@ -50,7 +50,8 @@ struct nursery {
     uint32_t count;       /* so many have a handle */
     uint32_t made_count;
     uint32_t live;
-    int has_dropped; /* a handle that had a place has none any more */
+    uint16_t *claimed; /* slots that the thread claimed, by their numbers */
+    size_t claimed_count, claimed_room;
 };
 
 /* A call that has a lease was handed a local, and threw nothing. Whether it is young. If not, it is to be told. */
