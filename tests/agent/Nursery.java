@@ -24,6 +24,11 @@ public class Nursery {
         entered(name, turn);
     }
 
+    /** The library makes a call while it is loaded. */
+    static void loads() {
+        System.loadLibrary("leasedone");
+    }
+
     /** What the native method returned must be this object, or nothing where it may not be returned. */
     static void returns(String name, Object object) {
         Object answer = returned(name, object);

@@ -19,7 +19,7 @@ enum { WARM = 4, MANY = 1000 };
 
 static JavaVM *vm;
 static char folder[4096];
-static jmethodID enters, returns, in_thread, at_once;
+static jmethodID enters, returns, in_thread, at_once, loads;
 
 struct given {
     jclass class;
@@ -558,6 +558,16 @@ static void nested_quiet(JNIEnv *env, struct given *it) {
     at_quiet(env, made);
 }
 
+/* A method of the JDK's is in the place of the inner one. */
+USE(at_loaded)
+static void nested_loads(JNIEnv *env, struct given *it) {
+    jobject made = warm_copy(env, it->text);
+    E->CallStaticVoidMethod(env, it->class, loads);
+    at_loaded(env, made);
+    deletes(env, made);
+    at_loaded(env, made);
+}
+
 static void return_live(JNIEnv *env, struct given *it) {
     jstring name = E->NewStringUTF(env, "live");
     E->CallStaticVoidMethod(env, it->class, returns, name, it->text);
@@ -906,6 +916,7 @@ static const struct {
     {"nested", nested, "6 IsSameObject", ""},
     {"nested_deletes", nested_deletes, "6 DeleteLocalRef", "S"},
     {"nested_quiet", nested_quiet, "6 IsSameObject", ""},
+    {"nested_loads", nested_loads, "6 IsSameObject", ""},
     {"return_live", return_live, "", ""},
     {"return_dead", return_dead, "6 NativeLeave", "S"},
     {"thrown", thrown, "6 IsSameObject", ""},
@@ -947,6 +958,7 @@ JNIEXPORT void JNICALL Java_Nursery_opens(JNIEnv *env, jclass class, jstring pat
     enters = E->GetStaticMethodID(env, class, "enters", "(Ljava/lang/String;I)V");
     returns = E->GetStaticMethodID(env, class, "returns", "(Ljava/lang/String;Ljava/lang/Object;)V");
     in_thread = E->GetStaticMethodID(env, class, "inThread", "(Ljava/lang/String;I)V");
+    loads = E->GetStaticMethodID(env, class, "loads", "()V");
     at_once = E->GetStaticMethodID(env, class, "atOnce", "(Ljava/lang/String;I)V");
 }
 
