@@ -8,8 +8,10 @@
 #include "core.h"
 #include "caller_state.h"
 #include "names.h"
+#include "nursery.h"
 #include "objects.h"
 #include "options.h"
+#include "quarantine.h"
 #include "report.h"
 
 #include <stdlib.h>
@@ -173,6 +175,7 @@ static void put_name(struct call *call, jobject handle, jg_value name, struct ob
     made.made_by = made_by;
     made.is_believed = made_by != MADE_UNSEEN;
     if (name.kind == JG_LOCAL) {
+        nursery_named(call->thread, made.handle);
         made.frame = threads_add_local(call->thread, made.handle, name.number);
         if (!knows_frame(call)) {
             made.frame = 0;
@@ -310,8 +313,10 @@ struct reference call_resolve(struct call *call, jobject handle, int wants_objec
     if (handle == NULL) {
         return it;
     }
+    nursery_used(call->thread, handle);
     int is_known = names_find(address_of(handle), known);
-    if ((!is_known || known->state == NAME_DEAD) && natives_name_unheard(call->thread, handle)) {
+    if ((!is_known || known->state == NAME_DEAD) &&
+        (natives_name_unheard(call->thread, handle) || nursery_names_other(call->thread, handle))) {
         is_known = names_find(address_of(handle), known);
     }
     call->has_known = (uint8_t)is_known;
@@ -844,10 +849,26 @@ static int is_copy(const struct call *call) {
             call->function == JG_FN_NewWeakGlobalRef);
 }
 
+/* Whether the core needn't be told of the result yet: it is a local that is young (nursery.c), and none was thrown. */
+static int is_young(struct call *call, jobject result) {
+    if (call->verdict.rule != JG_PASSED || call->row->effect != EFFECT_HANDS || call->row->detail != JG_LOCAL ||
+        core_hears_all || call->thread->depth == 0) {
+        return 0;
+    }
+    if (!says_done(call, jg_object(0)) && (call->was_pending || machine->ExceptionCheck(call->env))) {
+        return 0;
+    }
+    uint32_t bytes = is_copy(call) ? quarantine_size_of(call->first.object) : UNKNOWN_BYTES;
+    return nursery_makes(call->thread, result, call->function, call->site, bytes);
+}
+
 static void hands(struct call *call, jobject result) {
     jg_value given = jg_nothing(), says = jg_null();
     struct object *object = NULL;
     if (call->is_asked && is_reference(call, result)) {
+        if (is_young(call, result)) {
+            return;
+        }
         object = is_copy(call) ? call->first.object : objects_of(call->env, result);
         if (object == NULL) {
             core_count(&counts.unasked);
@@ -862,6 +883,12 @@ static void hands(struct call *call, jobject result) {
     if (given.kind >= JG_LOCAL && given.kind <= JG_WEAK) {
         call_names(call, result, given, object);
     }
+}
+
+jobject call_repeated(const struct asked *it, const struct lease *lease, JNIEnv *env, jobject result) {
+    struct call call;
+    call_repeats(&call, it, lease, env);
+    return call_hands(&call, result);
 }
 
 jobject call_hands(struct call *call, jobject result) {

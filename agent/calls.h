@@ -145,6 +145,9 @@ void call_checks_length(struct call *call, jsize length);
 /* A call that has a lease, and hands out a reference. */
 void call_repeats(struct call *call, const struct asked *it, const struct lease *lease, JNIEnv *env);
 
+/* The same of one that was made, and answered this. */
+jobject call_repeated(const struct asked *it, const struct lease *lease, JNIEnv *env, jobject result);
+
 /* A call of this function at this place had a lease, and threw. */
 void call_threw(struct thread *thread, uint32_t function, JNIEnv *env, const struct site *site);
 

@@ -58,7 +58,8 @@ NOTES = {'GetFieldID': 'ids_note_field(env, {0}, result, {2}, 0)',
          'GetMethodID': 'ids_note_method(env, result)', 'GetStaticMethodID': 'ids_note_method(env, result)',
          'NewGlobalRef': 'call_sees_global(result)',
          'FromReflectedMethod': 'ids_note_method(env, result)',
-         'FromReflectedField': 'ids_note_reflected(env, {0}, result)'}
+         'FromReflectedField': 'ids_note_reflected(env, {0}, result)',
+         'EnsureLocalCapacity': 'threads_forget_room()'}
 TYPES = {'BOOLEAN': 'Z', 'BYTE': 'B', 'CHAR': 'C', 'SHORT': 'S', 'INT': 'I', 'LONG': 'J', 'FLOAT': 'F', 'DOUBLE': 'D'}
 LENGTHS = {'GetStringLength', 'GetArrayLength'}
 NULLABLE = {'Nullable', 'Unjudged'}
@@ -231,6 +232,11 @@ class Wrapper:
         return (self.row.effect.name in ('Nothing', 'Hands') and self.row.takes_env and len(words) <= LEASED_WORDS and
                 ('Items', 'BOOLEAN') not in takes and all(word in BEYOND_WORDS or word in words for word, _ in takes))
 
+    def is_quick(self):
+        """Whether a local that it hands out may be young at once (nursery.c): no Java code runs, which might call
+        functions, so what isn't NULL says that the machine threw nothing."""
+        return tuple(self.row.effect) == ('Hands', 'Local') and self.row.runs != 'Java'
+
     def asked(self, caller):
         words = [f'(uintptr_t){name}' for name in self.references + [self.id] * (self.id is not None)]
         return (f'const struct asked asked = {{{caller}, JG_FN_{self.row.name}, {len(self.references)}, '
@@ -250,7 +256,10 @@ class Wrapper:
         bounded, found = ' && '.join(self.bounded()), 'leases_find(&asked, env)'
         yield f'const struct lease *lease = {f"{bounded} ? {found} : NULL" if bounded else found};'
         yield 'if (lease != NULL) {'
-        if self.row.effect.name == 'Hands':
+        if self.is_quick():
+            yield from [self.resulting(), *self.noted(), 'if (nursery_takes(result, lease)) {', done, '}']
+            yield 'return call_repeated(&asked, lease, env, result);'
+        elif self.row.effect.name == 'Hands':
             yield from ['struct call call;', 'call_repeats(&call, &asked, lease, env);', *made, *self.returned()]
         elif self.row.throws != 'Never' or self.row.runs == 'Java':
             yield from [*made, f'leases_made(JG_FN_{self.row.name}, env, CALLER);', done]
@@ -345,6 +354,7 @@ HEAD = '''/* agent/gen.py wrote this from jni.h and from the table of crates/jg_
 #include "calls.h"
 #include "buffers.h"
 #include "ids.h"
+#include "nursery.h"
 #include "table.h"
 
 #include <stdarg.h>

@@ -25,7 +25,7 @@ void leases_take(const struct call *call, const struct asked *it, uint64_t sum) 
         return;
     }
     struct lease *lease = leases_place(thread, it);
-    *lease = (struct lease){.at = it->at, .sum = sum, .library = thread->last_library};
+    *lease = (struct lease){.at = it->at, .sum = sum, .site = call->site};
     lease->object = call->first.object;
     lease->function = it->function;
     memcpy(lease->words, it->words, sizeof lease->words);

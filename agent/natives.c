@@ -16,6 +16,7 @@
 #include "forks.h"
 #include "caller_state.h"
 #include "names.h"
+#include "nursery.h"
 #include "objects.h"
 #include "options.h"
 #include "report.h"
@@ -465,6 +466,7 @@ static void tell_arguments(struct thread *thread, struct activation *activation,
         arguments[at].handle = handles[at];
         arguments[at].object = at == 0 ? receiver_of(native, env, handles[at]) : objects_of(env, handles[at]);
     }
+    nursery_tell(thread);
     core_lock();
     if (objects_are_gone()) {
         objects_tell_gone();
@@ -584,20 +586,11 @@ void natives_tell_quiet(struct thread *thread) {
 
 /*
  * Tells that the thread of this number had a local reference, and that it ended; and names the handle so. There is no
- * record then, and no advice. The thread's session may have ended meanwhile: then nothing is told. What object it was
- * isn't known any more, and no rule asks of a reference that ended: the class of all objects stands for it.
+ * record then, and no advice. The thread's session may have ended meanwhile: then nothing is told.
  */
 static int name_unheard(uintptr_t handle, const struct site *site, uint32_t number, int is_own) {
-    jg_value given = jg_nothing(), unwanted;
-    jg_fact got = jg_fact_of(JG_GOT, number, jg_nothing(), jg_object(0), JG_LOCAL, 0);
-    core_lock();
-    int32_t error = jg_tell(&core, &got, &given);
-    if (error == 0) {
-        jg_fact lost = jg_fact_of(JG_LOST, number, given, jg_null(), 0, 0);
-        error = jg_tell(&core, &lost, &unwanted);
-        core_facts++;
-    }
-    core_unlock();
+    jg_value given = jg_nothing();
+    int32_t error = nursery_tell_ended(number, &given);
     struct name ended = {.handle = handle, .name = given, .made = site, .made_by = JG_FN_NativeEnter};
     ended.ended = is_own ? site : NULL;
     ended.ended_by = is_own ? JG_FN_NativeLeave : ENDED_PERHAPS;

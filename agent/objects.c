@@ -22,7 +22,7 @@ enum { CLASS_OF_STRINGS = 2, CLASS_OF_OBJECTS = 3, CLASS_OF_ITEMS = 4 };
 
 static uint32_t setup_count;
 static uint8_t *is_taken; /* of each class object of the setup: whether an object has its number. Under core_lock */
-static jclass class_class, throwable_class;
+static jclass class_class, throwable_class, string_class;
 static struct class_info *of_classes;
 
 uint64_t objects_of_setup(void) {
@@ -31,6 +31,20 @@ uint64_t objects_of_setup(void) {
 
 int objects_are_throwable(JNIEnv *env, jclass class) {
     return machine->IsAssignableFrom(env, class, throwable_class);
+}
+
+uint64_t objects_ask_bytes(JNIEnv *env, jobject handle) {
+    jlong size = 0;
+    uintptr_t slot;
+    memcpy(&slot, (const void *)address_of(handle), sizeof slot);
+    if (slot == 0) {
+        /* Something emptied it unseen. */
+        return UINT64_MAX;
+    }
+    if (machine->IsInstanceOf(env, handle, string_class)) {
+        return objects_item_size('s') * (uint64_t)machine->GetStringLength(env, handle);
+    }
+    return (*tool)->GetObjectSize(tool, handle, &size) == JVMTI_ERROR_NONE ? (uint64_t)size : UINT64_MAX;
 }
 
 size_t objects_item_size(char shape) {
@@ -455,7 +469,8 @@ int objects_open(JNIEnv *env) {
     is_taken = must_make(setup_count);
     class_class = class_named(env, "java/lang/Class");
     throwable_class = class_named(env, "java/lang/Throwable");
-    if (class_class == NULL || throwable_class == NULL) {
+    string_class = class_named(env, "java/lang/String");
+    if (class_class == NULL || throwable_class == NULL || string_class == NULL) {
         return -1;
     }
     struct object *object = objects_of(env, class_class);

@@ -76,6 +76,9 @@ struct object *objects_cleared(void);
 jthrowable objects_put_by(JNIEnv *env);
 void objects_throw_again(JNIEnv *env, jthrowable pending);
 
+/* How many bytes the object is of, or the items of a string. No exception is pending. */
+uint64_t objects_ask_bytes(JNIEnv *env, jobject handle);
+
 /* The size of an item of such an array or string. */
 size_t objects_item_size(char shape);
 

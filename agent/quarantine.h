@@ -11,10 +11,26 @@
 #include <jni.h>
 #include <stdint.h>
 
-enum { QUARANTINE_BYTES = 16 << 20, QUARANTINE_BYTES_OF_ONE = 64 << 10 };
+enum { QUARANTINE_BYTES = 16 << 20, QUARANTINE_BYTES_OF_ONE = 64 << 10, QUARANTINE_UNCOUNTED = 64 };
+
+/* In the place of how many bytes an object is of: that isn't known. */
+#define UNKNOWN_BYTES UINT32_MAX
 
 /* The bytes of all that is held back: references, by the lengths of their objects, and copies of buffers. */
 extern _Atomic int64_t quarantine_bytes;
+
+/* So many bytes, as they are counted: what is shorter than a cache's line isn't. */
+static inline uint32_t quarantine_counted(uint64_t bytes) {
+    return bytes < QUARANTINE_UNCOUNTED ? 0 : bytes < UNKNOWN_BYTES ? (uint32_t)bytes : UNKNOWN_BYTES;
+}
+
+/* The bytes of the items of an object, as they are counted. */
+static inline uint32_t quarantine_size_of(const struct object *object) {
+    if (object == NULL || object->class == NULL) {
+        return 0;
+    }
+    return quarantine_counted((uint64_t)object->length * objects_item_size(object->class->shape));
+}
 
 /* Whether something of this size is held back at all. */
 static inline int quarantine_takes(uint64_t bytes) {

@@ -5,16 +5,9 @@
 #include "core.h"
 #include "caller_state.h"
 #include "names.h"
+#include "nursery.h"
 #include "objects.h"
 #include "quarantine.h"
-
-static uint32_t bytes_of(const struct object *object) {
-    if (object == NULL || object->class == NULL) {
-        return 0;
-    }
-    uint64_t bytes = (uint64_t)object->length * objects_item_size(object->class->shape);
-    return bytes > UINT32_MAX ? UINT32_MAX : (uint32_t)bytes;
-}
 
 /* ---- deletions ---- */
 
@@ -24,6 +17,10 @@ static void delete_unjudged(JNIEnv *env, uint32_t kind, jobject handle, uint16_t
     struct thread *thread = threads_known();
     if (thread != NULL && threads_has_on_stack(thread, address_of(handle))) {
         natives_tell_quiet(thread);
+    }
+    if (thread != NULL && nursery_lost(thread, handle, function, at)) {
+        delete_in_machine(env, kind, handle);
+        return;
     }
     int is_known = handle != NULL && names_find(address_of(handle), &known);
     if (is_known && known.state == NAME_LIVE) {
@@ -39,7 +36,7 @@ static void delete_unjudged(JNIEnv *env, uint32_t kind, jobject handle, uint16_t
 
 /* The core took the end: the name is dead, and the machine is told at once or later. */
 static void end_reference(struct call *call, const struct name *known, uint32_t kind) {
-    uint32_t bytes = bytes_of(known->object);
+    uint32_t bytes = quarantine_size_of(known->object);
     uint64_t number = known->name.number;
     /* It is marked before it stands in a ring, from which another thread may take it. */
     if (!names_end(known->handle, number, NAME_HELD, (uint16_t)call->function, call->site)) {
@@ -49,7 +46,7 @@ static void end_reference(struct call *call, const struct name *known, uint32_t 
     if (kind != JG_LOCAL) {
         is_held = quarantine_holds(call->env, kind, known, bytes);
     } else if (call->is_own_env && !call->site->library->is_tool) {
-        struct held_local local = {known->handle, number, known->frame, bytes};
+        struct held_local local = {known->handle, number, known->frame, bytes, 0};
         is_held = threads_hold_local(call->thread, call->env, &local);
     }
     if (!is_held && names_let_go(known->handle, number)) {
@@ -109,6 +106,9 @@ static void delete_reference(JNIEnv *env, uint32_t function, jobject handle, uin
 }
 
 void JNICALL wrapped_DeleteLocalRef(JNIEnv *env, jobject reference) {
+    if (nursery_deletes(env, reference, CALLER)) {
+        return;
+    }
     delete_reference(env, JG_FN_DeleteLocalRef, reference, CALLER);
 }
 
@@ -126,6 +126,7 @@ jobjectRefType JNICALL wrapped_GetObjectRefType(JNIEnv *env, jobject reference) 
     if (!call_begins(&call, JG_FN_GetObjectRefType, env, CALLER)) {
         return machine->GetObjectRefType(env, reference);
     }
+    nursery_used(call.thread, reference);
     call_unjudged(&call, reference);
     if (!call_passes(&call)) {
         return JNIInvalidRefType;
@@ -177,6 +178,9 @@ static void tell_pushed(struct call *call) {
 
 jint JNICALL wrapped_PushLocalFrame(JNIEnv *env, jint capacity) {
     struct call call;
+    if (threads_known() != NULL) {
+        nursery_tell(threads_known());
+    }
     int is_judged = call_begins(&call, JG_FN_PushLocalFrame, env, CALLER);
     if (is_judged) {
         call_number(&call, capacity);

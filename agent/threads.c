@@ -7,6 +7,7 @@
  */
 #include "threads.h"
 #include "buffers.h"
+#include "caller_state.h"
 #include "core.h"
 #include "forks.h"
 #include "monitors.h"
@@ -20,7 +21,7 @@
 #include <stdlib.h>
 #include <string.h>
 
-enum { MOST_THREADS = 65535, ROOM_BESIDE_HELD = 1024 };
+enum { MOST_THREADS = 65535, ROOM_BESIDE_HELD = 1024, HELD_BY_ROOM = 512 };
 
 static pthread_mutex_t lock = PTHREAD_MUTEX_INITIALIZER;
 static struct thread *threads;
@@ -34,6 +35,14 @@ __thread struct thread *threads_current __attribute__((tls_model("initial-exec")
 
 /* The machine said that this thread ends, and not that it begins since. */
 static __thread int has_ended __attribute__((tls_model("initial-exec")));
+
+void threads_lock(void) {
+    pthread_mutex_lock(&lock);
+}
+
+void threads_unlock(void) {
+    pthread_mutex_unlock(&lock);
+}
 
 /* ---- the structs ---- */
 
@@ -144,6 +153,7 @@ void threads_each_site(void (*see)(const struct site *site)) {
         for (size_t at = 0; at < UNHEARD; at++) {
             see(it->unheard[at].site);
         }
+        nursery_each_site(&it->nursery, see);
     }
     pthread_mutex_unlock(&lock);
 }
@@ -228,7 +238,7 @@ uint64_t threads_add_local(struct thread *thread, uintptr_t handle, uint64_t num
 
 void threads_push(struct thread *thread) {
     MAKE_ROOM(thread->frames, thread->frame_count, thread->frame_room);
-    thread->frames[thread->frame_count++] = (struct frame){thread->local_count, ++thread->newest_serial, 0};
+    thread->frames[thread->frame_count++] = (struct frame){thread->local_count, ++thread->newest_serial, 0, 0};
 }
 
 /* A place in the ring of what is held back. */
@@ -237,14 +247,26 @@ static struct held_local *held_at(const struct thread *thread, size_t at) {
     return &thread->held[place < room ? place : place - room];
 }
 
+/* What was held back is dead. Whether the machine is to delete it. */
+static int lets_go(struct thread *thread, const struct held_local *it) {
+    return it->is_young ? nursery_lets_go(thread, it->handle) : names_let_go(it->handle, it->number);
+}
+
+/* The bytes of what is held back, of which most are none. */
+static void count_bytes(int64_t more) {
+    if (more != 0) {
+        quarantine_bytes += more;
+    }
+}
+
 /* What is held back of the frame ends with it in the machine. */
 static void let_go_of_frame(struct thread *thread, const struct frame *frame) {
     size_t kept = 0;
     for (size_t at = 0; at < thread->held_count; at++) {
         struct held_local it = *held_at(thread, at);
         if (it.frame == frame->serial) {
-            names_let_go(it.handle, it.number);
-            quarantine_bytes -= it.bytes;
+            lets_go(thread, &it);
+            count_bytes(-(int64_t)it.bytes);
         } else {
             *held_at(thread, kept++) = it;
         }
@@ -254,6 +276,7 @@ static void let_go_of_frame(struct thread *thread, const struct frame *frame) {
 
 void threads_pop(struct thread *thread, uint16_t by, const struct site *site) {
     struct frame *frame = &thread->frames[thread->frame_count - 1];
+    nursery_pops(thread, by, site);
     for (size_t at = frame->first; at < thread->local_count; at++) {
         names_end(thread->locals[at].handle, thread->locals[at].number, NAME_DEAD, by, site);
     }
@@ -320,6 +343,7 @@ void threads_tell_enter(struct thread *thread, struct activation *activation) {
         return;
     }
     activation->is_told = 1;
+    activation->is_nursing = activation->native->is_judged && natives_are_seen() && !core_hears_all;
     thread->is_unsure = 1;
     activation->first_frame = thread->frame_count;
     thread->is_pending = 0;
@@ -424,6 +448,7 @@ void threads_go_on(void) {
 
 static void end_session(struct thread *thread) {
     natives_tell_unheard(thread);
+    nursery_ends(thread);
     core_lock();
     core_tell(jg_fact_of(JG_ENDS, thread->number, jg_nothing(), jg_null(), 0, 0), NULL);
     core_unlock();
@@ -432,6 +457,7 @@ static void end_session(struct thread *thread) {
     }
     for (size_t at = 0; at < thread->depth; at++) {
         thread->activations[at].is_told = 0;
+        thread->activations[at].is_nursing = 0;
         thread->activations[at].is_quiet = 0;
     }
     buffers_thread_ended(thread);
@@ -509,6 +535,7 @@ void threads_catch_up(struct thread *thread, JNIEnv *env, uintptr_t stack) {
     natives_tell_quiet(thread);
     struct activation *newest = thread->depth > 0 ? &thread->activations[thread->depth - 1] : NULL;
     if (newest != NULL && !newest->is_told) {
+        nursery_tell(thread);
         core_lock();
         threads_tell_enter(thread, newest);
         core_unlock();
@@ -525,8 +552,8 @@ void threads_catch_up(struct thread *thread, JNIEnv *env, uintptr_t stack) {
 static void forget_held(struct thread *thread) {
     for (size_t at = 0; at < thread->held_count; at++) {
         const struct held_local *it = held_at(thread, at);
-        names_let_go(it->handle, it->number);
-        quarantine_bytes -= it->bytes;
+        lets_go(thread, it);
+        count_bytes(-(int64_t)it->bytes);
     }
     thread->held_count = 0;
 }
@@ -534,6 +561,9 @@ static void forget_held(struct thread *thread) {
 /* The frame of this serial number, or NULL where it is gone. The numbers rise from the oldest to the newest. */
 static struct frame *frame_of(struct thread *thread, uint64_t serial) {
     size_t low = 0, high = thread->frame_count;
+    if (high > 0 && thread->frames[high - 1].serial == serial) {
+        return &thread->frames[high - 1];
+    }
     while (low < high) {
         size_t middle = low + (high - low) / 2;
         if (thread->frames[middle].serial < serial) {
@@ -551,14 +581,30 @@ static void give_oldest(struct thread *thread, JNIEnv *env) {
     struct frame *frame = frame_of(thread, oldest.frame);
     thread->held_first = (size_t)(held_at(thread, 1) - thread->held);
     thread->held_count--;
-    quarantine_bytes -= oldest.bytes;
+    count_bytes(-(int64_t)oldest.bytes);
     if (frame != NULL) {
         frame->held--;
     }
     /* Where the frame is gone the handle may be another reference by now. */
-    if (names_let_go(oldest.handle, oldest.number) && frame != NULL) {
+    if (lets_go(thread, &oldest) && frame != NULL) {
         machine->DeleteLocalRef(env, (jobject)oldest.handle);
     }
+}
+
+void threads_forget_room(void) {
+    struct thread *thread = threads_known();
+    if (thread != NULL && thread->frame_count > 0) {
+        thread->frames[thread->frame_count - 1].room = 0;
+    }
+}
+
+/* So that -Xcheck:jni doesn't count what is held back among the program's, of which there may be too many then. */
+static __attribute__((noinline)) void ask_for_room(struct frame *frame, JNIEnv *env) {
+    struct kept kept;
+    keep(&kept);
+    machine->EnsureLocalCapacity(env, ROOM_BESIDE_HELD);
+    frame->room = HELD_BY_ROOM;
+    restore(&kept);
 }
 
 int threads_hold_local(struct thread *thread, JNIEnv *env, const struct held_local *local) {
@@ -575,11 +621,12 @@ int threads_hold_local(struct thread *thread, JNIEnv *env, const struct held_loc
         give_oldest(thread, env);
     }
     *held_at(thread, thread->held_count++) = *local;
-    quarantine_bytes += local->bytes;
+    count_bytes(local->bytes);
     frame->held++;
-    if (!thread->is_pending) {
-        /* So that -Xcheck:jni doesn't count it among the program's, of which there may be too many then. */
-        machine->EnsureLocalCapacity(env, ROOM_BESIDE_HELD);
+    if (frame->room > 0) {
+        frame->room--;
+    } else if (!thread->is_pending) {
+        ask_for_room(frame, env);
     }
     return 1;
 }

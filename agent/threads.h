@@ -6,6 +6,7 @@
 
 #include "agent.h"
 #include "natives.h"
+#include "nursery.h"
 #include "sites.h"
 
 #include <stdatomic.h>
@@ -34,6 +35,7 @@ struct frame {
     size_t first;    /* the first of its locals */
     uint64_t serial; /* greater than that of any frame of the thread before it */
     uint32_t held;   /* how many of its locals are held back */
+    uint32_t room;   /* so many more may be before the machine is asked for room beside them */
 };
 
 /* A native method that the thread is in. The core is told of it at the first judged call in it. */
@@ -43,6 +45,7 @@ struct activation {
     size_t first_frame; /* of the frames that were told, its base */
     uint32_t pushed;    /* frames that were pushed before it was told */
     uint8_t is_told;
+    uint8_t is_nursing; /* it is told, and the core needn't hear of its locals at once (nursery.c) */
     uint8_t is_quiet; /* of judged code: it made no call yet, and what it was handed is told with it */
 };
 
@@ -58,9 +61,10 @@ struct unheard {
 /* A local reference that ended and wasn't given back to the machine yet. */
 struct held_local {
     uintptr_t handle;
-    uint64_t number;
+    uint64_t number; /* the core's; 0 of a young one */
     uint64_t frame;
     uint32_t bytes;
+    uint32_t is_young;
 };
 
 /* A monitor that was given up by Object.wait, and how often it had been entered. */
@@ -101,7 +105,7 @@ struct lease {
     uintptr_t at; /* the return address of its wrapper; 0: none */
     uint64_t sum;
     uintptr_t words[LEASED_WORDS];
-    const struct library *library;
+    const struct site *site;
     struct object *object; /* that its first operand names */
     uint32_t function;
 };
@@ -122,6 +126,7 @@ struct thread {
     uint32_t pushed; /* frames that were pushed outside of native methods before its session was told */
     struct local *locals;
     size_t local_count, local_room;
+    struct nursery nursery;
     struct held_local *held; /* a ring */
     size_t held_first, held_count;
     struct waiting waiting;
@@ -147,6 +152,10 @@ struct thread {
 extern __thread struct thread *threads_current __attribute__((tls_model("initial-exec")));
 
 struct thread *threads_make(void);
+
+/* Between these no thread's struct is freed, and no nursery's table is moved. */
+void threads_lock(void);
+void threads_unlock(void);
 
 /* Gives the thread a number. It has none after that where all are taken, or where the thread ends in the machine. */
 void threads_take_number(struct thread *thread);
@@ -292,6 +301,9 @@ void threads_check_pending(struct thread *thread, JNIEnv *env);
 
 /* Calls the function for the places that threads keep, which may be NULL. */
 void threads_each_site(void (*see)(const struct site *site));
+
+/* The program asked the machine for room itself: the agent's own asking counts no longer. */
+void threads_forget_room(void);
 
 /* Whether a local reference was held back in place of its deletion. */
 int threads_hold_local(struct thread *thread, JNIEnv *env, const struct held_local *local);

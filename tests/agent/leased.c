@@ -6,6 +6,15 @@
 
 #define E (*env)
 
+/* A call in a native method of the JDK's, which loads the library. */
+JNIEXPORT jint JNICALL JNI_OnLoad(JavaVM *vm, void *reserved) {
+    JNIEnv *env = NULL;
+    (void)reserved;
+    (*vm)->GetEnv(vm, (void **)&env, JNI_VERSION_1_6);
+    E->DeleteLocalRef(env, E->FindClass(env, "java/lang/String"));
+    return JNI_VERSION_1_6;
+}
+
 void uses(JNIEnv *env, jobject it) {
     for (int at = 0; at < 3; at++) {
         E->IsSameObject(env, it, NULL);
@@ -24,6 +33,10 @@ void deletes_local(JNIEnv *env, jobject it) {
 
 void deletes_global(JNIEnv *env, jobject it) {
     E->DeleteGlobalRef(env, it);
+}
+
+void pushes(JNIEnv *env) {
+    E->PushLocalFrame(env, 4);
 }
 
 void pops(JNIEnv *env) {

@@ -104,7 +104,7 @@ bounds_none bounds s p q row xs none is =
     let of_q : bad_argument bounds s q row xs ≡ list_any (λ x. is_out_of_bounds bounds s q None x.0 x.1) (paired row.takes xs) = rw none refl in
     of_q ∙ (all_bounds_same bounds s p q (paired row.takes xs) ∙ (sym of_p ∙ is))
 
-abbrev AllFail : (Rule → Bool) → List Rule → Type 0
+abbrev pub AllFail : (Rule → Bool) → List Rule → Type 0
 AllFail test rules = AllByRecursion (λ rule. test rule ≡ false) rules
 
 first_fails : (test : Rule → Bool) (rule : Rule) (rules : List Rule) (b : Bool) → test rule ≡ b → (find test rules ≡ None → AllFail test rules)
@@ -116,7 +116,7 @@ each_fails : (test : Rule → Bool) (rules : List Rule) → find test rules ≡ 
 each_fails test [] is = tt
 each_fails test (rule ∷ rules) is = first_fails test rule rules (test rule) refl (each_fails test rules) is
 
-none_found : (test : Rule → Bool) (rules : List Rule) → AllFail test rules → find test rules ≡ None
+pub none_found : (test : Rule → Bool) (rules : List Rule) → AllFail test rules → find test rules ≡ None
 none_found test [] all = refl
 none_found test (rule ∷ rules) all = rw all.0 (none_found test rules all.1)
 

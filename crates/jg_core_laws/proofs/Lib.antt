@@ -4,3 +4,4 @@ mod Classes
 pub mod Judged
 pub mod Leases
 pub mod Apart
+pub mod Brief

@@ -30,7 +30,7 @@ use Rattle.jg_core_laws.proofs.Callers.{not_same}
 -- ---- local references
 
 -- the act neither makes local n nor ends it
-abbrev spares : ℕ → Act → Bool
+abbrev pub spares : ℕ → Act → Bool
 spares n (Make k o) = not (k == n)
 spares n (Push room) = true
 spares n (Ensure c) = true
@@ -44,7 +44,7 @@ pub level : (n : ℕ) (later : List Act) → survives n later ≡ true
 level n [] alive = (refl, refl)
 level n (a ∷ later) alive = grind (arith, nat_tests, alive)
 
-survives_more : (n : ℕ) (a : Act) (later : List Act) → spares n a ≡ true → survives n later ≡ true → survives n (a ∷ later) ≡ true
+pub survives_more : (n : ℕ) (a : Act) (later : List Act) → spares n a ≡ true → survives n later ≡ true → survives n (a ∷ later) ≡ true
 survives_more n (Make k o) later spared alive = let even = level n later alive in grind (arith, nat_tests, spared, alive, even.0, even.1)
 survives_more n (Push room) later spared alive = let even = level n later alive in grind (arith, nat_tests, alive, even.0, even.1)
 survives_more n (Ensure c) later spared alive = let even = level n later alive in grind (arith, nat_tests, alive, even.0, even.1)
