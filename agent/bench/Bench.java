@@ -74,13 +74,17 @@ public class Bench {
         return (System.nanoTime() - begun) / (double) count;
     }
 
-    /** GetStringLength by four threads at once: nanoseconds for each call of all. */
-    static double together(int count) throws Exception {
+    interface Work {
+        double take(String text, int count);
+    }
+
+    /** Calls by four threads at once: nanoseconds for each call of all. */
+    static double together(Work work, int count) throws Exception {
         Thread[] threads = new Thread[4];
         long begun = System.nanoTime();
         for (int at = 0; at < threads.length; at++) {
             String text = "text " + at;
-            threads[at] = new Thread(() -> lengths(text, count));
+            threads[at] = new Thread(() -> work.take(text, count));
             threads[at].start();
         }
         for (Thread thread : threads) {
@@ -122,7 +126,9 @@ public class Bench {
         median("empty-native-3-references", samples, count, n -> empties(object, array, n));
         median("GetStringLength-attached", samples, count, n -> attached("a text", n));
         // Each begins four threads, which takes as long as thousands of calls.
-        median("GetStringLength-by-4", Math.max(3, samples / 20), 100 * count, n -> together(n));
+        int fewer = Math.max(3, samples / 20);
+        median("GetStringLength-by-4", fewer, 100 * count, n -> together(Bench::lengths, n));
+        median("NewLocalRef+DeleteLocalRef-by-4", fewer, 100 * count, n -> together(Bench::locals, n));
         List<Object> others = only == null || only.equals(BESIDE) ? others() : List.of(object);
         median(BESIDE, samples, count, n -> fields(others.get(others.size() / 2), n));
     }
