@@ -2,6 +2,7 @@
 use Rattle.std.proofs.Common.{ℕ, ◌≡◌, Bool, true, false, List, [], ◌∷◌, Option, Some, None, refl, ap, sym, ◌∙◌, subst, arith, eqb-true, if◌then◌else◌}
 use Rattle.std.specs.Prelude.{◌==◌, ◌+◌, not, find, slice_get}
 use Rattle.std.specs.List.{list_any, AllByRecursion}
+use Rattle.std.specs.Cmp.{both_ways}
 use Rattle.std.proofs.lemmas.Bool.Decides.{nat_tests}
 use Rattle.std.proofs.lemmas.Option.{same_Some}
 use Rattle.jg_words.specs.declared.thread.Tid.{Tid}
@@ -51,6 +52,23 @@ use Rattle.jg_core_laws.specs.Apart.{is_theirs, concerns, concerning, is_apart, 
 use Rattle.jg_core_laws.proofs.Classes.{kind_same}
 use Rattle.jg_core_laws.proofs.Meanings.{weak_more}
 use Rattle.jg_core_laws.proofs.Judged.{or_parts, each_judged, first_of, operand, no_buffer, buffer_right, buffers_right, bounds_same, all_bounds_same}
+
+-- ---- what any two tables have alike
+
+cleared_both : (q : ℕ) (old new : List globals.Event) (found : Option ℕ) → globals.unless_cleared old found ≡ globals.unless_cleared new found
+    → globals.unless_cleared (globals.Clear q ∷ old) found ≡ globals.unless_cleared (globals.Clear q ∷ new) found
+cleared_both q old new None same = refl
+cleared_both q old new (Some o) same = by_test (q == o) refl
+  where
+    by_test : (b : Bool) → (q == o) ≡ b → globals.unless_cleared (globals.Clear q ∷ old) (Some o) ≡ globals.unless_cleared (globals.Clear q ∷ new) (Some o)
+    by_test true is = rw is refl
+    by_test false is = rw is same
+
+-- an object that is gone clears alike what was alike
+pub cleared_alike : (q : ℕ) (old new : List globals.Event) (was now : Option ℕ) → was ≡ now → globals.unless_cleared old was ≡ globals.unless_cleared new now
+    → globals.unless_cleared (globals.Clear q ∷ old) was ≡ globals.unless_cleared (globals.Clear q ∷ new) now
+cleared_alike q old new was now alike still =
+    rw alike (cleared_both q old new now (subst (λ (found : Option ℕ). globals.unless_cleared old found ≡ globals.unless_cleared new now) alike still))
 
 -- ---- what the tables have of those threads
 
@@ -118,15 +136,6 @@ module _ (those : ℕ → Bool) where
 
   -- ---- global references
 
-  cleared_both : (q : ℕ) (old new : List globals.Event) (found : Option ℕ) → globals.unless_cleared old found ≡ globals.unless_cleared new found
-      → globals.unless_cleared (globals.Clear q ∷ old) found ≡ globals.unless_cleared (globals.Clear q ∷ new) found
-  cleared_both q old new None same = refl
-  cleared_both q old new (Some o) same = by_test (q == o) refl
-    where
-      by_test : (b : Bool) → (q == o) ≡ b → globals.unless_cleared (globals.Clear q ∷ old) (Some o) ≡ globals.unless_cleared (globals.Clear q ∷ new) (Some o)
-      by_test true is = rw is refl
-      by_test false is = rw is same
-
   made_both : (k i o m n : ℕ) (old new : List globals.Event) (b : Bool) → globals.is_same m n k i ≡ b → globals.weak_target old m n ≡ globals.weak_target new m n
       → globals.weak_target (globals.MakeWeak k i o ∷ old) m n ≡ globals.weak_target (globals.MakeWeak k i o ∷ new) m n
   made_both k i o m n old new true is same = rw is refl
@@ -147,20 +156,9 @@ module _ (those : ℕ → Bool) where
       weak_more m n (globals.DeleteStrong k i) old refl refl ∙ (same.target m n is ∙ sym (weak_more m n (globals.DeleteStrong k i) new refl refl))
   target_both (globals.MakeWeak k i o) old new same m n is = made_both k i o m n old new (globals.is_same m n k i) refl (same.target m n is)
   target_both (globals.DeleteWeak k i) old new same m n is = deleted_both k i m n old new (globals.is_same m n k i) refl (same.target m n is)
-  target_both (globals.Clear q) old new same m n is = cleared (globals.weak old m n) (globals.weak new m n) (same.weak m n is) (same.target m n is)
-    where
-      before : List globals.Event
-      before = globals.after_making m n old
-
-      after : List globals.Event
-      after = globals.after_making m n new
-
-      cleared : (was now : Option ℕ) → was ≡ now → globals.unless_cleared before was ≡ globals.unless_cleared after now
-          → globals.unless_cleared (globals.Clear q ∷ before) was ≡ globals.unless_cleared (globals.Clear q ∷ after) now
-      cleared was now alike still =
-          rw alike
-          (cleared_both q before after now
-          (subst (λ (found : Option ℕ). globals.unless_cleared before found ≡ globals.unless_cleared after now) alike still))
+  target_both (globals.Clear q) old new same m n is =
+      cleared_alike q (globals.after_making m n old) (globals.after_making m n new) (globals.weak old m n) (globals.weak new m n) (same.weak m n is)
+      (same.target m n is)
 
   strong_both : (ev : globals.Event) (old new : List globals.Event) → Handed old new → (m n : ℕ) → those m ≡ true → globals.strong (ev ∷ old) m n ≡ globals.strong (ev ∷ new) m n
   strong_both (globals.MakeStrong k i o) old new same m n is = rw (same.strong m n is) refl
@@ -409,11 +407,6 @@ module _ (those : ℕ → Bool) where
         critical = pin.critical;
         holds = pin.holds;
       })
-
-  both_ways : (a b : Bool) → (a ≡ true → b ≡ true) → (b ≡ true → a ≡ true) → a ≡ b
-  both_ways true b there back = sym (there refl)
-  both_ways false true there back = back refl
-  both_ways false false there back = refl
 
   critical_same : (t : ℕ) (p q : Parts) → those t ≡ true → Alike p q → buffers.in_critical p.buffers t ≡ buffers.in_critical q.buffers t
   critical_same t p q is same =

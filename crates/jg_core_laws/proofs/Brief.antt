@@ -59,7 +59,7 @@ use Rattle.jg_core_laws.proofs.Leases.{AllFail, none_found}
 
 -- ---- one thread's locals
 
-survives_by : (b : Bool) (n : ℕ) (a : Act) (later : List Act) → spares n a ≡ true → survives n later ≡ b → survives n (a ∷ later) ≡ survives n later
+pub survives_by : (b : Bool) (n : ℕ) (a : Act) (later : List Act) → spares n a ≡ true → survives n later ≡ b → survives n (a ∷ later) ≡ survives n later
 survives_by true n a later spared is = survives_more n a later spared is ∙ sym is
 survives_by false n a later spared is = rw is refl
 

@@ -5,3 +5,4 @@ pub mod Judged
 pub mod Leases
 pub mod Apart
 pub mod Brief
+pub mod Later

@@ -185,7 +185,7 @@ left_below : (same : Bool) (n m o : ℕ) (old : Option ℕ) → (old ≡ Some o 
 left_below true n m o old rest is = absurd cc
 left_below false n m o old rest is = rest is
 
-weak_below : (e : List globals.Event) (m t n o : ℕ) → IsMadeBelow t m e → globals.weak e t n ≡ Some o → n < m
+pub weak_below : (e : List globals.Event) (m t n o : ℕ) → IsMadeBelow t m e → globals.weak e t n ≡ Some o → n < m
 weak_below [] m t n o below is = absurd cc
 weak_below (globals.MakeWeak k i q ∷ e) m t n o below is =
     made_below (globals.is_same t n k i) t n k i q o m (globals.weak e t n) refl below.0 (weak_below e m t n o below.1) is

@@ -3,6 +3,7 @@
 
 ghost use Rattle.jg_core_laws.specs.Apart.{AnsweredApart};
 ghost use Rattle.jg_core_laws.specs.Laws.{PassesStill, BriefCanBe, BriefIsUnseen, BriefLeavesAll, BriefIsPassedBy, BriefMayEnd};
+ghost use Rattle.jg_core_laws.specs.Later.{BriefIsForgotten};
 
 /// A question that passed passes still, until a fact unsettles it: one of its own thread that changes what the thread
 /// may call, or one that ends a reference among its operands.
@@ -40,4 +41,10 @@ pub fn brief_is_passed_by()
 /// Its deletion passes, where the thread may call DeleteLocalRef at all.
 pub fn brief_may_end()
     ensures { BriefMayEnd }
+{}
+
+/// Whatever is told later, all is judged as if it had never been handed out. Its thread's later references have numbers
+/// that are greater by one.
+pub fn brief_is_forgotten()
+    ensures { BriefIsForgotten }
 {}
