@@ -258,7 +258,7 @@ type_same s p q info UtfChars same = refl
 type_same s p q info ArrayCritical same = rw same refl
 type_same s p q info StringCritical same = refl
 
-bounds_same : (bounds : Bounds) (s : StatedSetup) (p q : Parts) (info : Option Info) (takes : Takes) (x : Argument) → q.heap ≡ p.heap
+pub bounds_same : (bounds : Bounds) (s : StatedSetup) (p q : Parts) (info : Option Info) (takes : Takes) (x : Argument) → q.heap ≡ p.heap
     → is_out_of_bounds bounds s q info takes x ≡ is_out_of_bounds bounds s p info takes x
 bounds_same bounds s p q None Item (ValueOf v) same = refl
 bounds_same bounds s p q (Some info) Item (ValueOf v) same = rw (type_same s p q info info.family same) refl
@@ -282,7 +282,7 @@ pinned_same p q (Ends Global) r same = rw same refl
 pinned_same p q (Ends Weak) r same = rw same refl
 pinned_same p q effect r same = refl
 
-owned_same : (p q : Parts) (u : ℕ) (o : Option ℕ) → q.monitors ≡ p.monitors → is_not_owned q u o ≡ is_not_owned p u o
+pub owned_same : (p q : Parts) (u : ℕ) (o : Option ℕ) → q.monitors ≡ p.monitors → is_not_owned q u o ≡ is_not_owned p u o
 owned_same p q u None same = refl
 owned_same p q u (Some o) same = rw same refl
 
@@ -376,7 +376,7 @@ brief_is_unseen bounds s t o w u env row xs apart =
 
 -- ---- what can be told next
 
-not_ended : (m o : ℕ) (acts : List Act) → live m acts ≡ None → live m acts ≡ Some o → ⊥
+pub not_ended : (m o : ℕ) (acts : List Act) → live m acts ≡ None → live m acts ≡ Some o → ⊥
 not_ended m o acts none is = absurd cc
 
 module _ (s : StatedSetup) (t : Tid) (o : ObjId) (p : Parts) (below : Below p) where

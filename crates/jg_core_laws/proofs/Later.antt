@@ -1,13 +1,16 @@
 -- After a local reference that ended at once all is judged as if it had never been handed out.
-use Rattle.std.proofs.Common.{ℕ, ◌≡◌, ◌≤◌, ◌+◌, Bool, true, false, List, [], ◌∷◌, ◌++◌, Option, Some, None, refl, ap, sym, ◌∙◌, subst, arith, eqb-true, eq-eqb, if◌then◌else◌}
+use Rattle.std.proofs.Common.{ℕ, ℤ, ◌≡◌, ◌≤◌, ◌+◌, ◌-◌, Bool, true, false, List, [], ◌∷◌, ◌++◌, Option, Some, None, refl, ap, sym, ◌∙◌, subst, arith, eqb-true, eq-eqb, if◌then◌else◌}
 use Rattle.std.specs.Prelude.{◌==◌, ◌&&◌, not, nat_le, map}
 use Rattle.std.specs.List.{list_any, find}
 use Rattle.std.specs.Cmp.{both_ways}
-use Rattle.std.specs.Option.{option_map}
+use Rattle.std.specs.Option.{option_map, is_some}
 use Rattle.std.proofs.lemmas.Bool.Decides.{nat_tests}
 use Rattle.std.proofs.lemmas.Option.{same_Some}
+use Rattle.jg_words.specs.declared.thread.Tid.{Tid}
 use Rattle.jg_words.specs.declared.thread.EnvId.{EnvId}
 use Rattle.jg_words.specs.declared.object.ObjId.{ObjId}
+use Rattle.jg_words.specs.declared.buffer.BufId.{BufId}
+use Rattle.jg_words.specs.declared.object.ItemType.TheVariants.{Of, Float, Double}
 use Rattle.jg_words.specs.declared.reference.Ref.{Ref}
 use Rattle.jg_words.specs.declared.reference.Ref.TheVariants.{Null, To}
 use Rattle.jg_words.specs.declared.reference.Kind.{Kind}
@@ -15,16 +18,26 @@ use Rattle.jg_words.specs.declared.reference.Kind.TheVariants.{Local, Global, We
 use Rattle.jg_words.specs.declared.rule.Rule.{Rule}
 use Rattle.jg_words.specs.declared.rule.Rule.TheVariants.{WrongThread, Detached, InCritical, Pending, ForeignLocal, DeadReference, WrongRefKind, NullReference, WrongType, BadField, BadBuffer, BadArgument, Pinned, NotOwner, BadFrame, NoNativeAccess, NotLinked}
 use Rattle.jg_policy.specs.Stated.{StatedSetup}
+use Rattle.jg_policy.specs.Links as links
 use Rattle.jg_table_threads.specs.History as threads
+use Rattle.jg_table_threads.proofs.Callers.{is_pending_law}
 use Rattle.jg_table_locals.specs.History as locals
-use Rattle.jg_table_locals.specs.History.{Act, Start, Make, Push, Ensure, Enter, Delete, Pop, Leave, End, Making, making, seen_after, survives, ends, local_if_live, object_of, live, how_many, done_here, done_at, is_enter, is_leave, is_push, is_pop, session, depth, frames, IsMadeBelow}
+use Rattle.jg_table_locals.specs.History.{Act, Start, Make, Push, Ensure, Enter, Delete, Pop, Leave, End, Making, making, seen_after, survives, local_if_live, object_of, live, how_many, done_here, done_at, is_enter, is_leave, is_push, is_pop, session, depth, frames, IsMadeBelow}
+use Rattle.jg_table_locals.proofs.Callers.{held_law}
 use Rattle.jg_table_globals.specs.History as globals
 use Rattle.jg_table_globals.specs.Laws as globals_made
+use Rattle.jg_table_globals.proofs.Callers.{holds_law}
 use Rattle.jg_table_buffers.specs.History as buffers
+use Rattle.jg_table_buffers.specs.Laws.{CriticalBuffer}
 use Rattle.jg_table_buffers.specs.declared.family.Family.{Family}
-use Rattle.jg_table_buffers.proofs.Callers.{critical_law}
+use Rattle.jg_table_buffers.specs.declared.family.Family.TheVariants.{Elements, Chars, UtfChars, ArrayCritical, StringCritical}
+use Rattle.jg_table_buffers.specs.declared.info.Info.{Info}
+use Rattle.jg_table_buffers.proofs.Callers.{critical_law, pinned_object_law}
+use Rattle.jg_table_monitors.specs.History as monitors
+use Rattle.jg_table_heap.specs.History as heap
+use Rattle.jg_table_heap.specs.Making.{Opaque}
 use Rattle.jg_rows.specs.declared.row.Takes.{Takes}
-use Rattle.jg_rows.specs.declared.row.Takes.TheVariants.{Reference as TakesReference, Nullable, Arguments}
+use Rattle.jg_rows.specs.declared.row.Takes.TheVariants.{Reference as TakesReference, Nullable, Arguments, Buffer as TakesBuffer, Readable, Writable, Place, Item, Value}
 use Rattle.jg_rows.specs.declared.row.ObjectKind.{ObjectKind}
 use Rattle.jg_rows.specs.declared.row.Effect.{Effect}
 use Rattle.jg_rows.specs.declared.row.Effect.TheVariants.{Ends, Pops, Frees, Detaches, Enters, Leaves, Loads, Links}
@@ -32,27 +45,29 @@ use Rattle.jg_rows.specs.Columns.{Columns}
 use Rattle.jg_rules.specs.declared.named.Named.{Named}
 use Rattle.jg_rules.specs.declared.named.Named.TheVariants.{Nothing, Null as NamesNull, Object}
 use Rattle.jg_rules.specs.Parts.{Parts}
-use Rattle.jg_rules.specs.Names.{names, named_by, next_ref, next_buffer}
+use Rattle.jg_rules.specs.Names.{names, named_by, object_named, next_ref, next_buffer}
+use Rattle.jg_rules.specs.Buffers.{buffer_named, is_open_and, is_of_family, is_of_object, is_anothers, is_of_array, item_type, is_value_of_type}
+use Rattle.jg_rules.specs.Holding.{is_root}
 use Rattle.jg_rules.specs.Rules.{rules_in_order, is_foreign, is_not, is_nothing, is_null, is_linked}
 use Rattle.jg_laws.proofs.Kept.{Below, GlobalsBelow}
 use Rattle.jg_laws.proofs.Fresh.{kind_below}
 use Rattle.jg_judge.specs.declared.argument.Argument.{Argument}
-use Rattle.jg_judge.specs.declared.argument.Argument.TheVariants.{Reference}
+use Rattle.jg_judge.specs.declared.argument.Argument.TheVariants.{Reference, Buffer, Number, Value as ValueOf, Class, List as ListOf}
 use Rattle.jg_judge.specs.declared.argument.Bounds.{Bounds}
-use Rattle.jg_judge.specs.Asked.{Judged, judged, judged_of, paired, is_last, first_reference}
-use Rattle.jg_judge.specs.Broken.{broken, detached, is_wrong_kind, is_unfit, bad_argument, is_out_of_bounds, pinned, not_owner, bad_frame, no_access, not_linked, wrong_kind, class_by_name, native_by_name}
+use Rattle.jg_judge.specs.Asked.{Judged, judged, judged_of, paired, is_last, first_reference, first_buffer}
+use Rattle.jg_judge.specs.Broken.{broken, buffer_meant, is_wrong_buffer, is_refused_buffer, detached, is_wrong_kind, is_unfit, is_out_of_bounds, pinned, not_owner, bad_frame, no_access, not_linked, wrong_kind, class_by_name, native_by_name}
 use Rattle.jg_core.specs.declared.fact.Fact.{Fact}
 use Rattle.jg_core.specs.declared.fact.Fact.TheVariants as facts
 use Rattle.jg_core.specs.declared.fact.Fact.TheVariants.{Begin, Raise, Calm, Hand, Lost, Lend, Back, Own, Free, Meet, Gone, Link, Unlink, Warn, Checked}
-use Rattle.jg_core.specs.Facts.{on, parts_of, handed_on, kept_on, lost_on, lent}
+use Rattle.jg_core.specs.declared.fact.Checked.{Checked as Check}
+use Rattle.jg_core.specs.declared.fact.Checked.TheVariants as checked
+use Rattle.jg_core.specs.Facts.{on, parts_of, History, can_be, is_in_being, is_kept_here, is_so, handed_on, kept_on, lost_on, lent}
 use Rattle.jg_core.proofs.Each.{each_told, keeps_below, keeps_globals_below}
-use Rattle.jg_core_laws.specs.Laws.{is_buffer, briefly}
-use Rattle.jg_core_laws.specs.Apart.{is_apart}
-use Rattle.jg_core_laws.specs.Later.{raised_number, raised, raised_fact, raised_operand, BriefIsForgotten}
+use Rattle.jg_core_laws.specs.Laws.{briefly}
+use Rattle.jg_core_laws.specs.Later.{raised_number, raised, raised_check, raised_fact, raised_operand, asks_pins, BriefIsForgotten, BriefIsOutlived}
 use Rattle.jg_core_laws.proofs.Apart.{cleared_alike}
-use Rattle.jg_core_laws.proofs.Brief.{survives_by}
+use Rattle.jg_core_laws.proofs.Brief.{survives_by, not_ended, owned_same, brief_can_be, bounds_same as bounds_alike}
 use Rattle.jg_core_laws.proofs.Classes.{kind_same}
-use Rattle.jg_core_laws.proofs.Judged.{no_buffer, buffers_right, bounds_same}
 use Rattle.jg_core_laws.proofs.Meanings.{weak_more, weak_below}
 
 module _ (t k : ℕ) where
@@ -76,6 +91,39 @@ module _ (t k : ℕ) where
       by_test : (b : Bool) → (m == t) ≡ b → (moved m i == moved m n) ≡ (i == n)
       by_test true is = rw is (own_same i n)
       by_test false is = rw is refl
+
+  abbrev lowered_number : ℕ → ℕ → ℕ
+  lowered_number m n = if m == t then (if nat_le k n then n - 1 else n) else n
+
+  lowered_back : (m n : ℕ) → lowered_number m (moved m n) ≡ n
+  lowered_back m n = by_test (m == t) (nat_le k n) refl refl
+    where
+      by_test : (b c : Bool) → (m == t) ≡ b → nat_le k n ≡ c → lowered_number m (moved m n) ≡ n
+      by_test false c other high = rw other refl
+      by_test true true is high =
+          let higher : nat_le k (n + 1) ≡ true = grind (arith, nat_tests, high) in
+          rw (is, high) (rw higher (grind (arith, nat_tests)))
+      by_test true false is high = rw (is, high) (rw high refl)
+
+  -- what isn't the number of the local that ended is one that was moved
+  moved_back : (m n : ℕ) → ((m == t) && (n == k)) ≡ false → moved m (lowered_number m n) ≡ n
+  moved_back m n apart = by_test (m == t) (nat_le k n) refl refl
+    where
+      by_test : (b c : Bool) → (m == t) ≡ b → nat_le k n ≡ c → moved m (lowered_number m n) ≡ n
+      by_test false c other high = rw other refl
+      by_test true true is high =
+          let above : nat_le (k + 1) n ≡ true = grind (arith, nat_tests, high, apart, is) in
+          let still : nat_le k (n - 1) ≡ true = grind (arith, nat_tests, above) in
+          rw (is, high) (rw still (grind (arith, nat_tests, above)))
+      by_test true false is high = rw (is, high) (rw high refl)
+
+  never : (m n : ℕ) → ((m == t) && (moved m n == k)) ≡ false
+  never m n = by_test (m == t) (nat_le k n) refl refl
+    where
+      by_test : (b c : Bool) → (m == t) ≡ b → nat_le k n ≡ c → ((m == t) && (moved m n == k)) ≡ false
+      by_test false c other high = rw other refl
+      by_test true true is high = let apart : (n + 1 == k) ≡ false = grind (arith, nat_tests, high) in rw (is, high) apart
+      by_test true false is high = let apart : (n == k) ≡ false = grind (arith, nat_tests, high) in rw (is, high) apart
 
   abbrev moved_act : ℕ → Act → Act
   moved_act u (Make n o) = Make (moved u n) o
@@ -177,6 +225,34 @@ module _ (t k : ℕ) where
 
   live_moved : (u n : ℕ) (old new : List Act) → AllMade u old new → live (moved u n) new ≡ live n old
   live_moved u n old new same = live_by u n (making n old) (making (moved u n) new) (same n)
+
+  -- the local that ended stays dead
+  abbrev Dead : Option Making → Type 0
+  Dead None = Unit {0}
+  Dead (Some m) = survives k m.later ≡ false
+
+  dead_seen : (a : Act) (found : Option Making) → Dead found → Dead (seen_after a found)
+  dead_seen a None dead = tt
+  dead_seen a (Some m) dead = rw dead refl
+
+  never_own : (n : ℕ) → (moved t n == k) ≡ false
+  never_own n = subst (λ (b : Bool). (b && (moved t n == k)) ≡ false) (eq-eqb t t refl) (never t n)
+
+  dead_more : (a : Act) (e : List Act) → Dead (making k e) → Dead (making k (moved_act t a ∷ e))
+  dead_more (Make m o) e dead = let P : Bool → Type 0 = λ b. Dead (if b then Some (record { later = []; object = o; before = e }) else seen_after (Make (moved t m) o) (making k e)) in
+      subst P (sym (never_own m)) (dead_seen (Make (moved t m) o) (making k e) dead)
+  dead_more (Delete m) e dead = dead_seen (Delete (moved t m)) (making k e) dead
+  dead_more (Push room) e dead = dead_seen (Push room) (making k e) dead
+  dead_more (Ensure c) e dead = dead_seen (Ensure c) (making k e) dead
+  dead_more Enter e dead = dead_seen Enter (making k e) dead
+  dead_more Pop e dead = dead_seen Pop (making k e) dead
+  dead_more Leave e dead = dead_seen Leave (making k e) dead
+  dead_more Start e dead = dead_seen Start (making k e) dead
+  dead_more End e dead = dead_seen End (making k e) dead
+
+  dead_names : (found : Option Making) → Dead found → object_of (local_if_live k found) ≡ None
+  dead_names None dead = refl
+  dead_names (Some m) dead = rw dead refl
 
   -- ---- frames
 
@@ -385,85 +461,111 @@ module _ (t k : ℕ) where
   handed_more : (ev : globals.Event) (old new : List globals.Event) → Handed old new → Handed (ev ∷ old) (moved_event ev ∷ new)
   handed_more ev old new same = record { strong = strong_more ev old new same; weak = weak_kept ev old new same; target = target_kept ev old new same }
 
+  -- nothing is made of the number of the local that ended
+  gone_more : (ev : globals.Event) (e : List globals.Event) → globals.strong e t k ≡ None → globals.strong (moved_event ev ∷ e) t k ≡ None
+  gone_more (globals.MakeStrong m i o) e gone = rw (never m i) gone
+  gone_more (globals.DeleteStrong m i) e gone = rw (never m i) gone
+  gone_more (globals.MakeWeak m i o) e gone = gone
+  gone_more (globals.DeleteWeak m i) e gone = gone
+  gone_more (globals.Clear q) e gone = gone
+
   -- ---- buffers
 
-  abbrev key : buffers.Buffer → ℕ × Family
-  key b = (b.maker, b.family)
+  -- a buffer, whatever reference it was asked for by
+  abbrev bare : buffers.Buffer → buffers.Buffer
+  bare b = record b { via = Null }
 
   abbrev Lent : List buffers.Event → List buffers.Event → Type 0
-  Lent old new = (m n : ℕ) → option_map key (buffers.opened new m n) ≡ option_map key (buffers.opened old m n)
+  Lent old new = (m n : ℕ) → option_map bare (buffers.opened new m n) ≡ option_map bare (buffers.opened old m n)
 
-  opened_more : (b c : buffers.Buffer) (old new : List buffers.Event) → c.n ≡ b.n → key c ≡ key b → Lent old new
-      → Lent (buffers.Opened b ∷ old) (buffers.Opened c ∷ new)
-  opened_more b c old new number same_key same m n = by_test (buffers.is_same m n c.maker c.n) (buffers.is_same m n b.maker b.n) both
-    where
-      both : buffers.is_same m n c.maker c.n ≡ buffers.is_same m n b.maker b.n
-      both = rw (ap (λ x. x.0) same_key, number) refl
+  opened_if : (b c : buffers.Buffer) (x y : Option buffers.Buffer) (d e : Bool) → d ≡ e → bare c ≡ bare b → option_map bare y ≡ option_map bare x
+      → option_map bare (if d then Some c else y) ≡ option_map bare (if e then Some b else x)
+  opened_if b c x y true true is same older = ap Some same
+  opened_if b c x y true false is same older = absurd cc
+  opened_if b c x y false true is same older = absurd cc
+  opened_if b c x y false false is same older = older
 
-      by_test : (d e : Bool) → d ≡ e
-          → option_map key (if d then Some c else buffers.opened new m n) ≡ option_map key (if e then Some b else buffers.opened old m n)
-      by_test true true is = ap Some same_key
-      by_test true false is = absurd cc
-      by_test false true is = absurd cc
-      by_test false false is = same m n
+  opened_more : (b c : buffers.Buffer) (old new : List buffers.Event) → bare c ≡ bare b → Lent old new → Lent (buffers.Opened b ∷ old) (buffers.Opened c ∷ new)
+  opened_more b c old new is same m n =
+      opened_if b c (buffers.opened old m n) (buffers.opened new m n) (buffers.is_same m n c.maker c.n) (buffers.is_same m n b.maker b.n)
+      (ap (λ (x : buffers.Buffer). buffers.is_same m n x.maker x.n) is) is (same m n)
 
-  copied_same : (x y : Option buffers.Buffer) → option_map key x ≡ option_map key y → option_map key (buffers.copied_only x) ≡ option_map key (buffers.copied_only y)
+  copied_if : (b c : buffers.Buffer) (d e : Bool) → d ≡ e → bare c ≡ bare b
+      → option_map bare (if◌then◌else◌ {A = Option buffers.Buffer} d None (Some c)) ≡ option_map bare (if◌then◌else◌ {A = Option buffers.Buffer} e None (Some b))
+  copied_if b c true true is same = refl
+  copied_if b c true false is same = absurd cc
+  copied_if b c false true is same = absurd cc
+  copied_if b c false false is same = ap Some same
+
+  copied_same : (x y : Option buffers.Buffer) → option_map bare y ≡ option_map bare x → option_map bare (buffers.copied_only y) ≡ option_map bare (buffers.copied_only x)
   copied_same None None same = refl
   copied_same None (Some c) same = absurd cc
   copied_same (Some b) None same = absurd cc
   copied_same (Some b) (Some c) same =
-      let is : key b ≡ key c = same_Some (key b) (key c) same in
-      by_test (buffers.is_critical b.family) (buffers.is_critical c.family) (ap (λ x. buffers.is_critical x.1) is) is
-    where
-      by_test : (d e : Bool) → d ≡ e → key b ≡ key c
-          → option_map key (if◌then◌else◌ {A = Option buffers.Buffer} d None (Some b)) ≡ option_map key (if◌then◌else◌ {A = Option buffers.Buffer} e None (Some c))
-      by_test true true both is = refl
-      by_test true false both is = absurd cc
-      by_test false true both is = absurd cc
-      by_test false false both is = ap Some is
+      let is : bare c ≡ bare b = same_Some (bare c) (bare b) same in
+      copied_if b c (buffers.is_critical c.family) (buffers.is_critical b.family) (ap (λ (x : buffers.Buffer). buffers.is_critical x.family) is) is
 
-  closed_more : (m i : ℕ) (old new : List buffers.Event) → Lent old new → Lent (buffers.Closed m i ∷ old) (buffers.Closed m i ∷ new)
+  closed_more : (j i : ℕ) (old new : List buffers.Event) → Lent old new → Lent (buffers.Closed j i ∷ old) (buffers.Closed j i ∷ new)
   closed_more j i old new same m n = by_test (buffers.is_same m n j i)
     where
-      by_test : (d : Bool) → option_map key (if◌then◌else◌ {A = Option buffers.Buffer} d None (buffers.opened new m n))
-          ≡ option_map key (if◌then◌else◌ {A = Option buffers.Buffer} d None (buffers.opened old m n))
+      by_test : (d : Bool) → option_map bare (if◌then◌else◌ {A = Option buffers.Buffer} d None (buffers.opened new m n))
+          ≡ option_map bare (if◌then◌else◌ {A = Option buffers.Buffer} d None (buffers.opened old m n))
       by_test true = refl
       by_test false = same m n
 
   released_more : (j : ℕ) (old new : List buffers.Event) → Lent old new → Lent (buffers.ReleaseAll j ∷ old) (buffers.ReleaseAll j ∷ new)
   released_more j old new same m n = by_test (j == m)
     where
-      by_test : (d : Bool) → option_map key (if d then buffers.copied_only (buffers.opened new m n) else buffers.opened new m n)
-          ≡ option_map key (if d then buffers.copied_only (buffers.opened old m n) else buffers.opened old m n)
-      by_test true = copied_same (buffers.opened new m n) (buffers.opened old m n) (same m n)
+      by_test : (d : Bool) → option_map bare (if d then buffers.copied_only (buffers.opened new m n) else buffers.opened new m n)
+          ≡ option_map bare (if d then buffers.copied_only (buffers.opened old m n) else buffers.opened old m n)
+      by_test true = copied_same (buffers.opened old m n) (buffers.opened new m n) (same m n)
       by_test false = same m n
 
   record Found (y : Option buffers.Buffer) (b : buffers.Buffer) : Type 0 where
     pub buffer : buffers.Buffer
     pub is : y ≡ Some buffer
-    pub same : key buffer ≡ key b
+    pub same : bare buffer ≡ bare b
 
-  found_as : (x y : Option buffers.Buffer) (b : buffers.Buffer) → option_map key x ≡ option_map key y → x ≡ Some b → Found y b
+  found_as : (x y : Option buffers.Buffer) (b : buffers.Buffer) → option_map bare y ≡ option_map bare x → x ≡ Some b → Found y b
   found_as None y b same is = absurd cc
   found_as (Some c) None b same is = absurd cc
   found_as (Some c) (Some d) b same is =
-      record { buffer = d; is = refl; same = sym (same_Some (key c) (key d) same) ∙ ap key (same_Some c b is) }
+      record { buffer = d; is = refl; same = same_Some (bare d) (bare c) same ∙ ap bare (same_Some c b is) }
 
-  critical_if : (u : ℕ) (old new : List buffers.Event) → Lent new old → buffers.in_critical old u ≡ true → buffers.in_critical new u ≡ true
-  critical_if u old new same now =
-      let pin = (critical_law old u).0 now in
+  -- what holds of a critical buffer, by whatever reference, holds of the same one
+  critical_kept : (H : buffers.Buffer → Type 0) (old new : List buffers.Event) → Lent old new → ((b c : buffers.Buffer) → bare c ≡ bare b → H b → H c)
+      → CriticalBuffer old H → CriticalBuffer new H
+  critical_kept H old new same each pin =
       let found = found_as (buffers.opened old pin.maker pin.n) (buffers.opened new pin.maker pin.n) pin.buffer (same pin.maker pin.n) pin.is_open in
-      (critical_law new u).1 (record {
+      record {
         maker = pin.maker;
         n = pin.n;
         buffer = found.buffer;
         is_open = found.is;
-        critical = ap (λ x. buffers.is_critical x.1) found.same ∙ pin.critical;
-        holds = ap (λ x. x.0) found.same ∙ pin.holds;
-      })
+        critical = ap (λ (b : buffers.Buffer). buffers.is_critical b.family) found.same ∙ pin.critical;
+        holds = each pin.buffer found.buffer found.same pin.holds;
+      }
+
+  lent_back : (old new : List buffers.Event) → Lent old new → Lent new old
+  lent_back old new same m n = sym (same m n)
+
+  of_maker : (u : ℕ) (b c : buffers.Buffer) → bare c ≡ bare b → b.maker ≡ u → c.maker ≡ u
+  of_maker u b c is own = ap (λ (x : buffers.Buffer). x.maker) is ∙ own
+
+  of_object : (o : ℕ) (b c : buffers.Buffer) → bare c ≡ bare b → b.object ≡ o → c.object ≡ o
+  of_object o b c is own = ap (λ (x : buffers.Buffer). x.object) is ∙ own
 
   critical_same : (u : ℕ) (old new : List buffers.Event) → Lent old new → buffers.in_critical new u ≡ buffers.in_critical old u
-  critical_same u old new same = both_ways _ _ (critical_if u new old same) (critical_if u old new (λ m n. sym (same m n)))
+  critical_same u old new same =
+      both_ways _ _
+      (λ is. (critical_law old u).1 (critical_kept (λ b. b.maker ≡ u) new old (lent_back old new same) (of_maker u) ((critical_law new u).0 is)))
+      (λ is. (critical_law new u).1 (critical_kept (λ b. b.maker ≡ u) old new same (of_maker u) ((critical_law old u).0 is)))
+
+  pins_same : (o : ℕ) (old new : List buffers.Event) → Lent old new → buffers.pins_object new o ≡ buffers.pins_object old o
+  pins_same o old new same =
+      both_ways _ _
+      (λ is. (pinned_object_law old o).1 (critical_kept (λ b. b.object ≡ o) new old (lent_back old new same) (of_object o) ((pinned_object_law new o).0 is)))
+      (λ is. (pinned_object_law new o).1 (critical_kept (λ b. b.object ≡ o) old new same (of_object o) ((pinned_object_law old o).0 is)))
 
   -- ---- what the tables have
 
@@ -471,23 +573,53 @@ module _ (t k : ℕ) where
     pub elsewhere : (u : ℕ) → (u == t) ≡ false → threads.acts_of u q.threads ≡ threads.acts_of u p.threads
     pub own : Going (threads.acts_of t p.threads) (threads.acts_of t q.threads)
     pub made : (u : ℕ) → AllMade u (locals.acts_of u p.locals) (locals.acts_of u q.locals)
+    pub dead : Dead (making k (locals.acts_of t q.locals))
     pub framed : (u : ℕ) → Framed (locals.acts_of u p.locals) (locals.acts_of u q.locals)
     pub handed : Handed p.globals q.globals
+    pub gone : globals.strong q.globals t k ≡ None
     pub lent : Lent p.buffers q.buffers
+    pub monitors : q.monitors ≡ p.monitors
     pub heap : q.heap ≡ p.heap
     pub links : q.links ≡ p.links
 
-  raised_of : {p q : Parts} → ((u : ℕ) → (u == t) ≡ false → threads.acts_of u q.threads ≡ threads.acts_of u p.threads)
-      → Going (threads.acts_of t p.threads) (threads.acts_of t q.threads) → ((u : ℕ) → AllMade u (locals.acts_of u p.locals) (locals.acts_of u q.locals))
-      → ((u : ℕ) → Framed (locals.acts_of u p.locals) (locals.acts_of u q.locals)) → Handed p.globals q.globals → Lent p.buffers q.buffers
-      → q.heap ≡ p.heap → q.links ≡ p.links → Raised p q
-  raised_of elsewhere own made framed handed lent heap links =
-      record { elsewhere = elsewhere; own = own; made = made; framed = framed; handed = handed; lent = lent; heap = heap; links = links }
+  -- of what a fact changes in a table, and of the rest as it was
+  with_threads : (p q : Parts) (e f : List threads.Event) → Raised p q → ((u : ℕ) → (u == t) ≡ false → threads.acts_of u f ≡ threads.acts_of u e)
+      → Going (threads.acts_of t e) (threads.acts_of t f) → Raised (record p { threads = e }) (record q { threads = f })
+  with_threads p q e f same elsewhere own = record {
+    elsewhere = elsewhere;
+    own = own;
+    made = same.made;
+    dead = same.dead;
+    framed = same.framed;
+    handed = same.handed;
+    gone = same.gone;
+    lent = same.lent;
+    monitors = same.monitors;
+    heap = same.heap;
+    links = same.links;
+  }
+
+  with_locals : (p q : Parts) (e f : List locals.Event) → Raised p q → ((u : ℕ) → AllMade u (locals.acts_of u e) (locals.acts_of u f))
+      → Dead (making k (locals.acts_of t f)) → ((u : ℕ) → Framed (locals.acts_of u e) (locals.acts_of u f))
+      → Raised (record p { locals = e }) (record q { locals = f })
+  with_locals p q e f same made dead framed = record {
+    elsewhere = same.elsewhere;
+    own = same.own;
+    made = made;
+    dead = dead;
+    framed = framed;
+    handed = same.handed;
+    gone = same.gone;
+    lent = same.lent;
+    monitors = same.monitors;
+    heap = same.heap;
+    links = same.links;
+  }
 
   thread_act : (u : ℕ) (a : threads.Act) (p q : Parts) → Raised p q
       → Raised (record p { threads = threads.by u a ∷ p.threads }) (record q { threads = threads.by u a ∷ q.threads })
   thread_act u a p q same =
-      raised_of (λ v other. rw (same.elsewhere v other) refl) (by_test (u == t)) same.made same.framed same.handed same.lent same.heap same.links
+      with_threads p q (threads.by u a ∷ p.threads) (threads.by u a ∷ q.threads) same (λ v other. rw (same.elsewhere v other) refl) (by_test (u == t))
     where
       by_test : (b : Bool) → Going (if b then a ∷ threads.acts_of t p.threads else threads.acts_of t p.threads)
           (if b then a ∷ threads.acts_of t q.threads else threads.acts_of t q.threads)
@@ -497,7 +629,8 @@ module _ (t k : ℕ) where
   local_act : (u : ℕ) (a : Act) (p q : Parts) → Raised p q
       → Raised (record p { locals = locals.by u a ∷ p.locals }) (record q { locals = locals.by u (moved_act u a) ∷ q.locals })
   local_act u a p q same =
-      raised_of same.elsewhere same.own (λ v. made v (u == v) refl) (λ v. framed v (u == v) refl) same.handed same.lent same.heap same.links
+      with_locals p q (locals.by u a ∷ p.locals) (locals.by u (moved_act u a) ∷ q.locals) same (λ v. made v (u == v) refl) (dead (u == t) refl)
+      (λ v. framed v (u == v) refl)
     where
       made : (v : ℕ) (b : Bool) → (u == v) ≡ b → AllMade v (if b then a ∷ locals.acts_of v p.locals else locals.acts_of v p.locals)
           (if b then moved_act u a ∷ locals.acts_of v q.locals else locals.acts_of v q.locals)
@@ -506,6 +639,12 @@ module _ (t k : ℕ) where
           subst P (eqb-true u v is) (all_more u a (locals.acts_of u p.locals) (locals.acts_of u q.locals) (same.made u))
       made v false is = same.made v
 
+      dead : (b : Bool) → (u == t) ≡ b → Dead (making k (if b then moved_act u a ∷ locals.acts_of t q.locals else locals.acts_of t q.locals))
+      dead true is =
+          let P : ℕ → Type 0 = λ w. Dead (making k (moved_act w a ∷ locals.acts_of t q.locals)) in
+          subst P (sym (eqb-true u t is)) (dead_more a (locals.acts_of t q.locals) same.dead)
+      dead false is = same.dead
+
       framed : (v : ℕ) (b : Bool) → (u == v) ≡ b → Framed (if b then a ∷ locals.acts_of v p.locals else locals.acts_of v p.locals)
           (if b then moved_act u a ∷ locals.acts_of v q.locals else locals.acts_of v q.locals)
       framed v true is = framed_more u a (locals.acts_of v p.locals) (locals.acts_of v q.locals) (same.framed v)
@@ -513,8 +652,53 @@ module _ (t k : ℕ) where
 
   global_event : (ev : globals.Event) (p q : Parts) → Raised p q
       → Raised (record p { globals = ev ∷ p.globals }) (record q { globals = moved_event ev ∷ q.globals })
-  global_event ev p q same =
-      raised_of same.elsewhere same.own same.made same.framed (handed_more ev p.globals q.globals same.handed) same.lent same.heap same.links
+  global_event ev p q same = record {
+    elsewhere = same.elsewhere;
+    own = same.own;
+    made = same.made;
+    dead = same.dead;
+    framed = same.framed;
+    handed = handed_more ev p.globals q.globals same.handed;
+    gone = gone_more ev q.globals same.gone;
+    lent = same.lent;
+    monitors = same.monitors;
+    heap = same.heap;
+    links = same.links;
+  }
+
+  buffer_event : (ev now : buffers.Event) (p q : Parts) → Raised p q → Lent (ev ∷ p.buffers) (now ∷ q.buffers)
+      → Raised (record p { buffers = ev ∷ p.buffers }) (record q { buffers = now ∷ q.buffers })
+  buffer_event ev now p q same lent = record {
+    elsewhere = same.elsewhere;
+    own = same.own;
+    made = same.made;
+    dead = same.dead;
+    framed = same.framed;
+    handed = same.handed;
+    gone = same.gone;
+    lent = lent;
+    monitors = same.monitors;
+    heap = same.heap;
+    links = same.links;
+  }
+
+  -- events that both have, of monitors, objects and links
+  with_rest : (m : List monitors.Event → List monitors.Event) (h : List heap.Event → List heap.Event) (l : List links.Event → List links.Event) (p q : Parts)
+      → Raised p q → Raised (record p { monitors = m p.monitors; heap = h p.heap; links = l p.links })
+      (record q { monitors = m q.monitors; heap = h q.heap; links = l q.links })
+  with_rest m h l p q same = record {
+    elsewhere = same.elsewhere;
+    own = same.own;
+    made = same.made;
+    dead = same.dead;
+    framed = same.framed;
+    handed = same.handed;
+    gone = same.gone;
+    lent = same.lent;
+    monitors = ap m same.monitors;
+    heap = ap h same.heap;
+    links = ap l same.links;
+  }
 
   next_by : (u : ℕ) (p q : Parts) (b : Bool) → (u == t) ≡ b → Raised p q → next_ref q u ≡ moved u (next_ref p u)
   next_by u p q false other same = rw (other, same.elsewhere u other) refl
@@ -530,10 +714,6 @@ module _ (t k : ℕ) where
   buffer_by u p q true is same =
       let P : ℕ → Type 0 = λ v. next_buffer q v ≡ next_buffer p v in
       subst P (sym (eqb-true u t is)) (rw same.own.buffers refl)
-
-  buffer_event : (ev now : buffers.Event) (p q : Parts) → Raised p q → Lent (ev ∷ p.buffers) (now ∷ q.buffers)
-      → Raised (record p { buffers = ev ∷ p.buffers }) (record q { buffers = now ∷ q.buffers })
-  buffer_event ev now p q same lent = raised_of same.elsewhere same.own same.made same.framed same.handed lent same.heap same.links
 
   -- ---- one more fact
 
@@ -555,44 +735,43 @@ module _ (t k : ℕ) where
   lost_raised (To Global maker n) p q same = global_event (globals.DeleteStrong maker.0 n) p q same
   lost_raised (To Weak maker n) p q same = global_event (globals.DeleteWeak maker.0 n) p q same
 
-  lent_key : (u n : ℕ) (family : Family) (o : ℕ) (via other : Ref) (count : ℕ) (b : Bool) → buffers.is_critical family ≡ b
-      → (key (lent u n family o other count) ≡ key (lent u n family o via count)) × ((lent u n family o other count).n ≡ (lent u n family o via count).n)
-  lent_key u n family o via other count true is = rw is (refl, refl)
-  lent_key u n family o via other count false is = rw is (refl, refl)
+  lent_bare : (u n : ℕ) (family : Family) (o : ℕ) (via other : Ref) (count : ℕ) (b : Bool) → buffers.is_critical family ≡ b
+      → bare (lent u n family o other count) ≡ bare (lent u n family o via count)
+  lent_bare u n family o via other count true is = rw is refl
+  lent_bare u n family o via other count false is = rw is refl
 
   fact_raised : (x : Fact) (p q : Parts) → Raised p q → Raised (on x p) (on (raised_fact t k x) q)
   fact_raised (Begin u) p q same = local_act u.0 Start _ _ (thread_act u.0 threads.Attach p q same)
   fact_raised (facts.End u) p q same =
-      let acted = local_act u.0 locals.End _ _ (thread_act u.0 threads.Detach p q same) in
+      let acted = local_act u.0 End _ _ (thread_act u.0 threads.Detach p q same) in
       let ended = buffer_event (buffers.ReleaseAll u.0) (buffers.ReleaseAll u.0) _ _ acted (released_more u.0 p.buffers q.buffers same.lent) in
-      raised_of ended.elsewhere ended.own ended.made ended.framed ended.handed ended.lent ended.heap ended.links
+      with_rest (λ m. monitors.by u.0 monitors.ReleaseAll ∷ m) (λ h. h) (λ l. l) _ _ ended
   fact_raised (facts.Enter u) p q same =
-      local_act u.0 locals.Enter _ _ (thread_act u.0 threads.Calm _ _ (thread_act u.0 threads.Enter p q same))
+      local_act u.0 Enter _ _ (thread_act u.0 threads.Calm _ _ (thread_act u.0 threads.Enter p q same))
   fact_raised (facts.Leave u kept) p q same =
-      kept_raised u.0 kept _ _ (local_act u.0 locals.Leave _ _ (thread_act u.0 threads.Calm _ _ (thread_act u.0 threads.Leave p q same)))
-  fact_raised (facts.Push u room) p q same = local_act u.0 (locals.Push room) p q same
-  fact_raised (facts.Pop u kept) p q same = kept_raised u.0 kept _ _ (local_act u.0 locals.Pop p q same)
-  fact_raised (facts.Ensure u room) p q same = local_act u.0 (locals.Ensure room) p q same
+      kept_raised u.0 kept _ _ (local_act u.0 Leave _ _ (thread_act u.0 threads.Calm _ _ (thread_act u.0 threads.Leave p q same)))
+  fact_raised (facts.Push u room) p q same = local_act u.0 (Push room) p q same
+  fact_raised (facts.Pop u kept) p q same = kept_raised u.0 kept _ _ (local_act u.0 Pop p q same)
+  fact_raised (facts.Ensure u room) p q same = local_act u.0 (Ensure room) p q same
   fact_raised (Raise u o) p q same = thread_act u.0 (threads.Raise o.0) p q same
   fact_raised (Calm u) p q same = thread_act u.0 threads.Calm p q same
   fact_raised (Hand u kind o) p q same = handed_raised u.0 kind o.0 p q same
   fact_raised (Lost r) p q same = lost_raised r p q same
   fact_raised (Lend u family o via n) p q same =
-      let is = lent_key u.0 (next_buffer p u.0) family o.0 via (raised t k via) n (buffers.is_critical family) refl in
+      let b : buffers.Buffer = lent u.0 (next_buffer p u.0) family o.0 via n in
+      let c : buffers.Buffer = lent u.0 (next_buffer p u.0) family o.0 (raised t k via) n in
       rw (buffer_by u.0 p q (u.0 == t) refl same)
-      (buffer_event (buffers.Opened (lent u.0 (next_buffer p u.0) family o.0 via n)) (buffers.Opened (lent u.0 (next_buffer p u.0) family o.0 (raised t k via) n))
-      _ _ (thread_act u.0 threads.CountBuffer p q same) (opened_more _ _ p.buffers q.buffers is.1 is.0 same.lent))
+      (buffer_event (buffers.Opened b) (buffers.Opened c) _ _ (thread_act u.0 threads.CountBuffer p q same)
+      (opened_more b c p.buffers q.buffers (lent_bare u.0 (next_buffer p u.0) family o.0 via (raised t k via) n (buffers.is_critical family) refl) same.lent))
   fact_raised (Back b) p q same =
       buffer_event (buffers.Closed b.maker.0 b.n) (buffers.Closed b.maker.0 b.n) p q same (closed_more b.maker.0 b.n p.buffers q.buffers same.lent)
-  fact_raised (Own u o) p q same = raised_of same.elsewhere same.own same.made same.framed same.handed same.lent same.heap same.links
-  fact_raised (Free u o) p q same = raised_of same.elsewhere same.own same.made same.framed same.handed same.lent same.heap same.links
-  fact_raised (Meet class n) p q same = raised_of same.elsewhere same.own same.made same.framed same.handed same.lent (rw same.heap refl) same.links
-  fact_raised (Gone o) p q same =
-      let cleared = global_event (globals.Clear o.0) p q same in
-      raised_of cleared.elsewhere cleared.own cleared.made cleared.framed cleared.handed cleared.lent (rw same.heap refl) cleared.links
-  fact_raised (Link class native) p q same = raised_of same.elsewhere same.own same.made same.framed same.handed same.lent same.heap (rw same.links refl)
-  fact_raised (Unlink class) p q same = raised_of same.elsewhere same.own same.made same.framed same.handed same.lent same.heap (rw same.links refl)
-  fact_raised (Warn home) p q same = raised_of same.elsewhere same.own same.made same.framed same.handed same.lent same.heap (rw same.links refl)
+  fact_raised (Own u o) p q same = with_rest (λ m. monitors.by u.0 (monitors.Enter o.0) ∷ m) (λ h. h) (λ l. l) p q same
+  fact_raised (Free u o) p q same = with_rest (λ m. monitors.by u.0 (monitors.Exit o.0) ∷ m) (λ h. h) (λ l. l) p q same
+  fact_raised (Meet class n) p q same = with_rest (λ m. m) (λ h. heap.Made (Opaque class n) ∷ h) (λ l. l) p q same
+  fact_raised (Gone o) p q same = with_rest (λ m. m) (λ h. heap.Went o.0 ∷ h) (λ l. l) _ _ (global_event (globals.Clear o.0) p q same)
+  fact_raised (Link class native) p q same = with_rest (λ m. m) (λ h. h) (λ l. links.Linked class native ∷ l) p q same
+  fact_raised (Unlink class) p q same = with_rest (λ m. m) (λ h. h) (λ l. links.UnlinkedAll class ∷ l) p q same
+  fact_raised (Warn home) p q same = with_rest (λ m. m) (λ h. h) (λ l. links.Warned home ∷ l) p q same
   fact_raised (Checked check) p q same = same
 
   later_raised : (later w v : List Fact) → Raised (parts_of w) (parts_of v) → Raised (parts_of (later ++ w)) (parts_of (map (raised_fact t k) later ++ v))
@@ -661,6 +840,9 @@ module _ (t k : ℕ) where
       by_test false is =
           let P : ℕ → Type 0 = λ i. Made t n (making n e) (making i (Delete k ∷ Make k o ∷ e)) in
           subst P (sym (moved_low n is)) (rw (low n is) (spared n o (low n is) (making n e) (moved_low n is)))
+
+  dead_begins : (o : ℕ) (e : List Act) → IsMadeBelow k e → Dead (making k (Delete k ∷ Make k o ∷ e))
+  dead_begins o e below = rw (eq-eqb k k refl) (rw (eq-eqb k k refl) refl)
 
   moved_elsewhere : (u n : ℕ) → (u == t) ≡ false → moved u n ≡ n
   moved_elsewhere u n other = rw other refl
@@ -739,7 +921,19 @@ module _ (t k : ℕ) where
 
   begins_raised : (o : ℕ) (p : Parts) → k ≡ next_ref p t → Below p → GlobalsBelow p → Raised p (brief_parts o p)
   begins_raised o p is below globals_below =
-      raised_of (λ u other. rw (flip u other) refl) going made framed handed (λ m n. refl) refl refl
+      record {
+        elsewhere = λ u other. rw (flip u other) refl;
+        own = going;
+        made = made;
+        dead = subst (λ (e : List Act). Dead (making k e)) (sym (own_acts o p)) (dead_begins o (locals.acts_of t p.locals) own_below);
+        framed = framed;
+        handed = handed;
+        gone = none_strong k (globals.strong p.globals t k) refl (grind (arith, nat_tests));
+        lent = λ m n. refl;
+        monitors = refl;
+        heap = refl;
+        links = refl;
+      }
     where
       flip : (u : ℕ) → (u == t) ≡ false → (t == u) ≡ false
       flip u other = grind (arith, nat_tests, other)
@@ -749,6 +943,10 @@ module _ (t k : ℕ) where
 
       their_below : globals_made.IsMadeBelow t k p.globals
       their_below = let P : ℕ → Type 0 = λ m. globals_made.IsMadeBelow t m p.globals in subst P (sym is) (globals_below t)
+
+      none_strong : (i : ℕ) (found : Option ℕ) → globals.strong p.globals t i ≡ found → k ≤ i → found ≡ None
+      none_strong i None was high = refl
+      none_strong i (Some x) was high = absurd (omega (arith, high, kind_below Global p.globals k t i x their_below (rw was refl)))
 
       going : Going (threads.acts_of t p.threads) (threads.acts_of t (threads.by t threads.CountRef ∷ p.threads))
       going = rw (eq-eqb t t refl) (record {
@@ -790,19 +988,25 @@ module _ (t k : ℕ) where
 
   -- ---- what references name
 
-  abbrev Attends : Parts → Parts → ℕ → Type 0
-  Attends p q v = (threads.session (threads.acts_of v q.threads) ≡ threads.session (threads.acts_of v p.threads))
-      × ((threads.pending (threads.acts_of v q.threads) ≡ threads.pending (threads.acts_of v p.threads))
-      × (threads.depth (threads.acts_of v q.threads) ≡ threads.depth (threads.acts_of v p.threads)))
+  record Attends (p q : Parts) (v : ℕ) : Type 0 where
+    pub session : threads.session (threads.acts_of v q.threads) ≡ threads.session (threads.acts_of v p.threads)
+    pub pending : threads.pending (threads.acts_of v q.threads) ≡ threads.pending (threads.acts_of v p.threads)
+    pub depth : threads.depth (threads.acts_of v q.threads) ≡ threads.depth (threads.acts_of v p.threads)
+    pub attached : threads.attached (threads.acts_of v q.threads) ≡ threads.attached (threads.acts_of v p.threads)
 
   attends : (u : ℕ) (p q : Parts) → Raised p q → Attends p q u
   attends u p q same = by_test (u == t) refl
     where
       by_test : (b : Bool) → (u == t) ≡ b → Attends p q u
-      by_test true is =
-          subst (Attends p q) (sym (eqb-true u t is))
-          (rw (same.own.attached, same.own.sessions) refl, (same.own.pending, rw (same.own.enters, same.own.leaves) refl))
-      by_test false other = rw (same.elsewhere u other) (refl, (refl, refl))
+      by_test true is = subst (Attends p q) (sym (eqb-true u t is)) (record {
+        session = rw (same.own.attached, same.own.sessions) refl;
+        pending = same.own.pending;
+        depth = rw (same.own.enters, same.own.leaves) refl;
+        attached = same.own.attached;
+      })
+      by_test false other =
+          let is = same.elsewhere u other in
+          record { session = ap threads.session is; pending = ap threads.pending is; depth = ap threads.depth is; attached = ap threads.attached is }
 
   names_raised : (u : ℕ) (r : Ref) (p q : Parts) → Raised p q → names q u (raised t k r) ≡ names p u r
   names_raised u Null p q same = refl
@@ -853,13 +1057,29 @@ module _ (t k : ℕ) where
   first_raised (Reference r ∷ xs) = refl
   first_raised (x ∷ xs) = first_raised xs
 
-  no_buffer_raised : (x : Argument) → is_buffer (raised_operand t k x) ≡ is_buffer x
-  no_buffer_raised (Reference r) = refl
-  no_buffer_raised x = refl
+  first_buffer_raised : (xs : List Argument) → first_buffer (map (raised_operand t k) xs) ≡ first_buffer xs
+  first_buffer_raised [] = refl
+  first_buffer_raised (Reference r ∷ xs) = first_buffer_raised xs
+  first_buffer_raised (Buffer b ∷ xs) = refl
+  first_buffer_raised (x ∷ xs) = first_buffer_raised xs
 
-  unlent_raised : (xs : List Argument) → list_any is_buffer (map (raised_operand t k) xs) ≡ list_any is_buffer xs
-  unlent_raised [] = refl
-  unlent_raised (x ∷ xs) = rw (no_buffer_raised x, unlent_raised xs) refl
+  abbrev bare_info : Info → Info
+  bare_info info = record info { via = Null }
+
+  info_of_bare : (x y : Option buffers.Buffer) → option_map bare y ≡ option_map bare x
+      → option_map bare_info (option_map buffers.info_of y) ≡ option_map bare_info (option_map buffers.info_of x)
+  info_of_bare None None same = refl
+  info_of_bare None (Some c) same = absurd cc
+  info_of_bare (Some b) None same = absurd cc
+  info_of_bare (Some b) (Some c) same = ap (λ (x : buffers.Buffer). Some (bare_info (buffers.info_of x))) (same_Some (bare c) (bare b) same)
+
+  info_raised : (b : BufId) (p q : Parts) → Raised p q → option_map bare_info (buffer_named q b) ≡ option_map bare_info (buffer_named p b)
+  info_raised b p q same = info_of_bare (buffers.opened p.buffers b.maker.0 b.n) (buffers.opened q.buffers b.maker.0 b.n) (same.lent b.maker.0 b.n)
+
+  -- a test that doesn't ask for the reference
+  test_raised : {X : Type 0} (f : Option Info → X) → ((i : Option Info) → f (option_map bare_info i) ≡ f i) → (x y : Option Info)
+      → option_map bare_info y ≡ option_map bare_info x → f y ≡ f x
+  test_raised f bare x y same = sym (bare y) ∙ (ap f same ∙ bare x)
 
   module _ (bounds : Bounds) (s : StatedSetup) (p q : Parts) (same : Raised p q) where
     kind_raised : (kind : ObjectKind) (named : Named) → is_wrong_kind s q kind named ≡ is_wrong_kind s p kind named
@@ -912,17 +1132,85 @@ module _ (t k : ℕ) where
       unfit_each takes (Reference r) = refl
       unfit_each takes x = refl
 
-      bounds_each : (takes : Takes) (x : Argument) → is_out_of_bounds bounds s q None takes (raised_operand t k x) ≡ is_out_of_bounds bounds s p None takes x
-      bounds_each takes (Reference r) = refl
-      bounds_each takes x = bounds_same bounds s p q takes x
+      released_open : (family : Family) (o : Option ℕ) (i : Option Info)
+          → is_open_and (λ x. is_of_family family x && (is_of_object o x && not (is_anothers u x))) (option_map bare_info i)
+          ≡ is_open_and (λ x. is_of_family family x && (is_of_object o x && not (is_anothers u x))) i
+      released_open family None None = refl
+      released_open family None (Some info) = refl
+      released_open family (Some o) None = refl
+      released_open family (Some o) (Some info) = refl
+
+      own_open : (i : Option Info) → is_open_and (λ x. not (is_anothers u x)) (option_map bare_info i) ≡ is_open_and (λ x. not (is_anothers u x)) i
+      own_open None = refl
+      own_open (Some info) = refl
+
+      array_open : (i : Option Info) → is_open_and (λ x. is_of_array x.family && not (is_anothers u x)) (option_map bare_info i)
+          ≡ is_open_and (λ x. is_of_array x.family && not (is_anothers u x)) i
+      array_open None = refl
+      array_open (Some info) = refl
+
+      refused_raised : (r : Ref) (takes : Takes) (b : BufId) → is_refused_buffer q u (raised t k r) takes b ≡ is_refused_buffer p u r takes b
+      refused_raised r (TakesBuffer family) b =
+          rw (names_raised u r p q same)
+          (ap not (test_raised (is_open_and (λ x. is_of_family family x && (is_of_object (object_named p u r) x && not (is_anothers u x))))
+          (released_open family (object_named p u r)) (buffer_named p b) (buffer_named q b) (info_raised b p q same)))
+      refused_raised r Readable b =
+          ap not (test_raised (is_open_and (λ x. not (is_anothers u x))) own_open (buffer_named p b) (buffer_named q b) (info_raised b p q same))
+      refused_raised r Writable b =
+          ap not (test_raised (is_open_and (λ x. is_of_array x.family && not (is_anothers u x))) array_open (buffer_named p b) (buffer_named q b)
+          (info_raised b p q same))
+      refused_raised r takes b = refl
+
+      buffer_each : (r : Ref) (takes : Takes) (x : Argument) → is_wrong_buffer q u (raised t k r) takes (raised_operand t k x) ≡ is_wrong_buffer p u r takes x
+      buffer_each r takes (Reference a) = refl
+      buffer_each r takes (Buffer b) = refused_raised r takes b
+      buffer_each r takes x = refl
+
+      meant_raised : (b : Option BufId) → option_map bare_info (buffer_meant q b) ≡ option_map bare_info (buffer_meant p b)
+      meant_raised None = refl
+      meant_raised (Some b) = info_raised b p q same
+
+      item_bare : (v : ℤ) (info : Info) (family : Family)
+          → not (is_value_of_type (item_type s p (bare_info info) family) v) ≡ not (is_value_of_type (item_type s p info family) v)
+      item_bare v info (Elements (Of element)) = refl
+      item_bare v info (Elements Float) = refl
+      item_bare v info (Elements Double) = refl
+      item_bare v info Chars = refl
+      item_bare v info UtfChars = refl
+      item_bare v info ArrayCritical = refl
+      item_bare v info StringCritical = refl
+
+      bounds_bare : (takes : Takes) (x : Argument) (i : Option Info)
+          → is_out_of_bounds bounds s p (option_map bare_info i) takes x ≡ is_out_of_bounds bounds s p i takes x
+      bounds_bare takes x None = refl
+      bounds_bare Item (ValueOf v) (Some info) = item_bare v info info.family
+      bounds_bare (Value item) (ValueOf v) (Some info) = refl
+      bounds_bare takes (ValueOf v) (Some info) = refl
+      bounds_bare Place (Number n) (Some info) = refl
+      bounds_bare takes (Number n) (Some info) = refl
+      bounds_bare takes (ListOf count fits) (Some info) = refl
+      bounds_bare takes (Class class) (Some info) = refl
+      bounds_bare takes x (Some info) = refl
+
+      bounds_both : (b : Option BufId) (takes : Takes) (x : Argument)
+          → is_out_of_bounds bounds s q (buffer_meant q b) takes x ≡ is_out_of_bounds bounds s p (buffer_meant p b) takes x
+      bounds_both b takes x =
+          bounds_alike bounds s p q (buffer_meant q b) takes x same.heap
+          ∙ test_raised (λ i. is_out_of_bounds bounds s p i takes x) (bounds_bare takes x) (buffer_meant p b) (buffer_meant q b) (meant_raised b)
+
+      bounds_each : (b : Option BufId) (takes : Takes) (x : Argument)
+          → is_out_of_bounds bounds s q (buffer_meant q b) takes (raised_operand t k x) ≡ is_out_of_bounds bounds s p (buffer_meant p b) takes x
+      bounds_each b takes (Reference r) = refl
+      bounds_each b takes (Buffer c) = bounds_both b takes (Buffer c)
+      bounds_each b takes x = bounds_both b takes x
 
       detached_raised : (env : Option EnvId) (row : Columns) → detached q u env row ≡ detached p u env row
       detached_raised None row = refl
-      detached_raised (Some env) row = rw (attends u p q same).0 refl
+      detached_raised (Some env) row = rw (attends u p q same).session refl
 
       frame_raised : (effect : Effect) → bad_frame q u effect ≡ bad_frame p u effect
-      frame_raised Detaches = rw (attends u p q same).1.1 refl
-      frame_raised Leaves = rw (attends u p q same).1.1 refl
+      frame_raised Detaches = rw (attends u p q same).depth refl
+      frame_raised Leaves = rw (attends u p q same).depth refl
       frame_raised Pops = rw (frames_same (locals.acts_of u p.locals) (locals.acts_of u q.locals) (same.framed u)) refl
       frame_raised effect = refl
 
@@ -930,15 +1218,15 @@ module _ (t k : ℕ) where
       wrong_raised (Ends kind) r = not_raised kind r
       wrong_raised effect r = refl
 
-      pinned_raised : (effect : Effect) (r : Ref) → is_apart effect ≡ true → pinned q effect (raised t k r) ≡ pinned p effect r
+      pinned_raised : (effect : Effect) (r : Ref) → asks_pins effect ≡ false → pinned q effect (raised t k r) ≡ pinned p effect r
       pinned_raised (Ends Local) r is = refl
       pinned_raised (Ends Global) r is = absurd cc
       pinned_raised (Ends Weak) r is = absurd cc
       pinned_raised effect r is = refl
 
-      owner_raised : (effect : Effect) (r : Ref) → is_apart effect ≡ true → not_owner q u effect (raised t k r) ≡ not_owner p u effect r
-      owner_raised Frees r is = absurd cc
-      owner_raised effect r is = refl
+      owner_raised : (effect : Effect) (r : Ref) → not_owner q u effect (raised t k r) ≡ not_owner p u effect r
+      owner_raised Frees r = rw (names_raised u r p q same) (owned_same p q u (object_named p u r) same.monitors)
+      owner_raised effect r = refl
 
       class_raised : (xs : List Argument) → class_by_name s (map (raised_operand t k) xs) ≡ class_by_name s xs
       class_raised [] = refl
@@ -967,19 +1255,12 @@ module _ (t k : ℕ) where
       linked_raised Enters xs = rw (class_raised xs, native_raised xs) (linked_by (class_by_name s xs) (native_by_name xs))
       linked_raised effect xs = refl
 
-      module _ (env : Option EnvId) (row : Columns) (xs : List Argument) (plain : is_apart row.effect ≡ true) (unlent : list_any is_buffer xs ≡ false) where
-        none_meant : (r : Parts) (ys : List Argument) → list_any is_buffer ys ≡ false
-            → bad_argument bounds s r row ys ≡ list_any (λ y. is_out_of_bounds bounds s r None y.0 y.1) (paired row.takes ys)
-        none_meant r ys none = rw (no_buffer ys none) refl
-
-        also_unlent : list_any is_buffer (map (raised_operand t k) xs) ≡ false
-        also_unlent = unlent_raised xs ∙ unlent
-
+      module _ (env : Option EnvId) (row : Columns) (xs : List Argument) (unpinned : asks_pins row.effect ≡ false) where
         rule_raised : (rule : Rule) → broken rule bounds s q u env row (map (raised_operand t k) xs) ≡ broken rule bounds s p u env row xs
         rule_raised WrongThread = refl
         rule_raised Detached = detached_raised env row
         rule_raised InCritical = rw (critical_same u p.buffers q.buffers same.lent) refl
-        rule_raised Pending = rw (attends u p q same).1.0 refl
+        rule_raised Pending = rw (attends u p q same).pending refl
         rule_raised ForeignLocal = each_raised (λ j. is_foreign u j.reference) (λ j. is_foreign u j.reference) foreign_each row.takes xs
         rule_raised DeadReference = each_raised (λ j. is_nothing (names p u j.reference)) (λ j. is_nothing (names q u j.reference)) dead_each row.takes xs
         rule_raised WrongRefKind = rw (first_raised xs) (wrong_raised row.effect (first_reference xs))
@@ -989,13 +1270,14 @@ module _ (t k : ℕ) where
             each_raised (λ j. is_wrong_kind s p j.kind (names p u j.reference)) (λ j. is_wrong_kind s q j.kind (names q u j.reference)) kind_each row.takes xs
         rule_raised BadField = any_raised (λ take x. is_unfit x) (λ take x. is_unfit x) unfit_each row.takes xs
         rule_raised BadBuffer =
-            buffers_right q u (first_reference (map (raised_operand t k) xs)) row.takes (map (raised_operand t k) xs) also_unlent
-            ∙ sym (buffers_right p u (first_reference xs) row.takes xs unlent)
+            rw (first_raised xs)
+            (any_raised (is_wrong_buffer p u (first_reference xs)) (is_wrong_buffer q u (raised t k (first_reference xs))) (buffer_each (first_reference xs)) row.takes xs)
         rule_raised BadArgument =
-            none_meant q (map (raised_operand t k) xs) also_unlent
-            ∙ (any_raised (is_out_of_bounds bounds s p None) (is_out_of_bounds bounds s q None) bounds_each row.takes xs ∙ sym (none_meant p xs unlent))
-        rule_raised Pinned = rw (first_raised xs) (pinned_raised row.effect (first_reference xs) plain)
-        rule_raised NotOwner = rw (first_raised xs) (owner_raised row.effect (first_reference xs) plain)
+            rw (first_buffer_raised xs)
+            (any_raised (is_out_of_bounds bounds s p (buffer_meant p (first_buffer xs))) (is_out_of_bounds bounds s q (buffer_meant q (first_buffer xs)))
+            (bounds_each (first_buffer xs)) row.takes xs)
+        rule_raised Pinned = rw (first_raised xs) (pinned_raised row.effect (first_reference xs) unpinned)
+        rule_raised NotOwner = rw (first_raised xs) (owner_raised row.effect (first_reference xs))
         rule_raised BadFrame = frame_raised row.effect
         rule_raised NoNativeAccess = rw (first_raised xs) (access_raised row.effect (first_reference xs) xs)
         rule_raised NotLinked = linked_raised row.effect xs
@@ -1005,12 +1287,147 @@ module _ (t k : ℕ) where
         verdict_raised [] = refl
         verdict_raised (rule ∷ rules) = rw (rule_raised rule, verdict_raised rules) refl
 
-pub brief_is_forgotten : BriefIsForgotten
-brief_is_forgotten bounds s t o later w u env row xs could plain unlent =
-    let k : ℕ = next_ref (parts_of w) t.0 in
-    let begun =
-    begins_raised t.0 k o.0 (parts_of w) refl (each_told _ s (keeps_below s) (λ u. tt) w could)
+  -- ---- what can be told
+
+  dead_own : (p q : Parts) → Raised p q → live k (locals.acts_of t q.locals) ≡ None
+  dead_own p q same = dead_names (making k (locals.acts_of t q.locals)) same.dead
+
+  lowered_live : (u m o : ℕ) (p q : Parts) (b : Bool) → ((u == t) && (m == k)) ≡ b → Raised p q → live m (locals.acts_of u q.locals) ≡ Some o
+      → live (lowered_number u m) (locals.acts_of u p.locals) ≡ Some o
+  lowered_live u m o p q false apart same is =
+      sym (live_moved u (lowered_number u m) (locals.acts_of u p.locals) (locals.acts_of u q.locals) (same.made u))
+      ∙ (ap (λ (i : ℕ). live i (locals.acts_of u q.locals)) (moved_back u m apart) ∙ is)
+  lowered_live u m o p q true own same is =
+      let whose : t ≡ u = eqb-true t u (grind (arith, nat_tests, own)) in
+      let which : k ≡ m = eqb-true k m (grind (arith, nat_tests, own)) in
+      let P : ℕ → Type 0 = λ v. live k (locals.acts_of v q.locals) ≡ None in
+      let Q : ℕ → Type 0 = λ i. live i (locals.acts_of u q.locals) ≡ None in
+      absurd (not_ended m o (locals.acts_of u q.locals) (subst Q which (subst P whose (dead_own p q same))) is)
+
+  not_both : (found : Option ℕ) (x : ℕ) → found ≡ None → found ≡ Some x → ⊥
+  not_both found x none some = cc
+
+  lowered_strong : (u m o : ℕ) (p q : Parts) (b : Bool) → ((u == t) && (m == k)) ≡ b → Raised p q → globals.strong q.globals u m ≡ Some o
+      → globals.strong p.globals u (lowered_number u m) ≡ Some o
+  lowered_strong u m o p q false apart same is =
+      sym (same.handed.strong u (lowered_number u m)) ∙ (ap (λ (i : ℕ). globals.strong q.globals u i) (moved_back u m apart) ∙ is)
+  lowered_strong u m o p q true own same is =
+      let whose : t ≡ u = eqb-true t u (grind (arith, nat_tests, own)) in
+      let which : k ≡ m = eqb-true k m (grind (arith, nat_tests, own)) in
+      let P : ℕ → Type 0 = λ v. globals.strong q.globals v k ≡ None in
+      let Q : ℕ → Type 0 = λ i. globals.strong q.globals u i ≡ None in
+      absurd (not_both (globals.strong q.globals u m) o (subst Q which (subst P whose same.gone)) is)
+
+  module _ (s : StatedSetup) (p q : Parts) (same : Raised p q) where
+    locals_hold : (o : ℕ) → locals.holds_object q.locals o ≡ locals.holds_object p.locals o
+    locals_hold o =
+        both_ways _ _
+        (λ is. let there = (held_law q.locals o).0 is in
+        (held_law p.locals o).1 (
+          there.0,
+          lowered_number there.0 there.1,
+          lowered_live there.0 there.1 o p q ((there.0 == t) && (there.1 == k)) refl same there.2,
+        ))
+        (λ is. let there = (held_law p.locals o).0 is in
+        (held_law q.locals o).1 (
+          there.0,
+          moved there.0 there.1,
+          live_moved there.0 there.1 (locals.acts_of there.0 p.locals) (locals.acts_of there.0 q.locals) (same.made there.0) ∙ there.2,
+        ))
+
+    globals_hold : (o : ℕ) → globals.holds_object q.globals o ≡ globals.holds_object p.globals o
+    globals_hold o =
+        both_ways _ _
+        (λ is. let there = (holds_law q.globals o).0 is in
+        (holds_law p.globals o).1 (
+          there.0,
+          lowered_number there.0 there.1,
+          lowered_strong there.0 there.1 o p q ((there.0 == t) && (there.1 == k)) refl same there.2,
+        ))
+        (λ is. let there = (holds_law p.globals o).0 is in
+        (holds_law q.globals o).1 (there.0, moved there.0 there.1, same.handed.strong there.0 there.1 ∙ there.2))
+
+    threads_hold : (o : ℕ) → threads.is_pending q.threads o ≡ threads.is_pending p.threads o
+    threads_hold o =
+        both_ways _ _
+        (λ is. let there = (is_pending_law q.threads o).0 is in
+        (is_pending_law p.threads o).1 (there.0, sym (attends there.0 p q same).pending ∙ there.1))
+        (λ is. let there = (is_pending_law p.threads o).0 is in
+        (is_pending_law q.threads o).1 (there.0, (attends there.0 p q same).pending ∙ there.1))
+
+    root_raised : (o : ℕ) → is_root q o ≡ is_root p o
+    root_raised o = rw (locals_hold o, globals_hold o, threads_hold o, pins_same o p.buffers q.buffers same.lent, same.monitors) refl
+
+    kept_here : (kept : Option ObjId) → is_kept_here s q kept ≡ is_kept_here s p kept
+    kept_here None = refl
+    kept_here (Some o) = rw same.heap refl
+
+    being_raised : (r : Ref) → is_in_being q (raised t k r) ≡ is_in_being p r
+    being_raised Null = refl
+    being_raised (To kind maker n) = ap (λ named. not (is_nothing named)) (names_raised maker.0 (To kind maker n) p q same)
+
+    null_raised : (r : Ref) → buffers.is_null (raised t k r) ≡ buffers.is_null r
+    null_raised Null = refl
+    null_raised (To kind maker n) = refl
+
+    open_bare : (i : Option Info) → is_some (option_map bare_info i) ≡ is_some i
+    open_bare None = refl
+    open_bare (Some info) = refl
+
+    so_raised : (check : Check) → is_so s q (raised_check t k check) ≡ is_so s p check
+    so_raised (checked.Local u n object) =
+        rw ((attends u.0 p q same).attached, live_moved u.0 n (locals.acts_of u.0 p.locals) (locals.acts_of u.0 q.locals) (same.made u.0)) refl
+    so_raised (checked.Pending u object) = rw ((attends u.0 p q same).attached, (attends u.0 p q same).pending) refl
+    so_raised (checked.Length o n) = rw same.heap refl
+
+    can_raised : (x : Fact) → can_be s q (raised_fact t k x) ≡ can_be s p x
+    can_raised (Begin u) = rw (attends u.0 p q same).attached refl
+    can_raised (facts.End u) = (attends u.0 p q same).attached
+    can_raised (facts.Enter u) = (attends u.0 p q same).attached
+    can_raised (facts.Leave u kept) = rw ((attends u.0 p q same).attached, (attends u.0 p q same).depth, kept_here kept) refl
+    can_raised (facts.Push u room) = (attends u.0 p q same).attached
+    can_raised (facts.Pop u kept) =
+        rw ((attends u.0 p q same).attached, frames_same (locals.acts_of u.0 p.locals) (locals.acts_of u.0 q.locals) (same.framed u.0), kept_here kept) refl
+    can_raised (facts.Ensure u room) = (attends u.0 p q same).attached
+    can_raised (Raise u o) = rw ((attends u.0 p q same).attached, same.heap) refl
+    can_raised (Calm u) = (attends u.0 p q same).attached
+    can_raised (Hand u kind o) = rw ((attends u.0 p q same).attached, same.heap) refl
+    can_raised (Lost r) = being_raised r
+    can_raised (Lend u family o via n) = rw ((attends u.0 p q same).attached, same.heap, null_raised via) refl
+    can_raised (Back b) = test_raised is_some open_bare (buffer_named p b) (buffer_named q b) (info_raised b p q same)
+    can_raised (Own u o) = rw ((attends u.0 p q same).attached, same.heap, same.monitors) refl
+    can_raised (Free u o) = rw same.monitors refl
+    can_raised (Meet class n) = refl
+    can_raised (Gone o) = rw (same.heap, root_raised o.0) refl
+    can_raised (Link class native) = refl
+    can_raised (Unlink class) = refl
+    can_raised (Warn home) = refl
+    can_raised (Checked check) = so_raised check
+
+  all_told : (s : StatedSetup) (later w v : List Fact) → Raised (parts_of w) (parts_of v) → History s (later ++ w) → History s v
+      → History s (map (raised_fact t k) later ++ v)
+  all_told s [] w v same could begun = begun
+  all_told s (x ∷ later) w v same could begun = (
+    can_raised s (parts_of (later ++ w)) (parts_of (map (raised_fact t k) later ++ v)) (later_raised later w v same) x ∙ could.0,
+    all_told s later w v same could.1 begun,
+  )
+
+begins : (s : StatedSetup) (t : Tid) (o : ObjId) (w : List Fact) → History s w → Raised t.0 (next_ref (parts_of w) t.0) (parts_of w) (parts_of (briefly t o w))
+begins s t o w could =
+    begins_raised t.0 (next_ref (parts_of w) t.0) o.0 (parts_of w) refl (each_told _ s (keeps_below s) (λ u. tt) w could)
     (each_told _ s (keeps_globals_below s) (λ u. tt) w could)
-    in
+
+pub brief_is_forgotten : BriefIsForgotten
+brief_is_forgotten bounds s t o later w u env row xs could unpinned =
+    let k : ℕ = next_ref (parts_of w) t.0 in
     verdict_raised t.0 k bounds s (parts_of (later ++ w)) (parts_of (map (raised_fact t.0 k) later ++ briefly t o w))
-    (later_raised t.0 k later w (briefly t o w) begun) u env row xs plain unlent rules_in_order
+    (later_raised t.0 k later w (briefly t o w) (begins s t o w could)) u env row xs unpinned rules_in_order
+
+history_before : (s : StatedSetup) (later w : List Fact) → History s (later ++ w) → History s w
+history_before s [] w could = could
+history_before s (x ∷ later) w could = history_before s later w could.1
+
+pub brief_is_outlived : BriefIsOutlived
+brief_is_outlived s t o later w could handed =
+    let before = history_before s later w could in
+    all_told t.0 (next_ref (parts_of w) t.0) s later w (briefly t o w) (begins s t o w before) could (brief_can_be s t o w (handed, before))

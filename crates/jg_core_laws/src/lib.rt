@@ -3,7 +3,7 @@
 
 ghost use Rattle.jg_core_laws.specs.Apart.{AnsweredApart};
 ghost use Rattle.jg_core_laws.specs.Laws.{PassesStill, BriefCanBe, BriefIsUnseen, BriefLeavesAll, BriefIsPassedBy, BriefMayEnd};
-ghost use Rattle.jg_core_laws.specs.Later.{BriefIsForgotten};
+ghost use Rattle.jg_core_laws.specs.Later.{BriefIsForgotten, BriefIsOutlived};
 
 /// A question that passed passes still, until a fact unsettles it: one of its own thread that changes what the thread
 /// may call, or one that ends a reference among its operands.
@@ -47,4 +47,9 @@ pub fn brief_may_end()
 /// that are greater by one.
 pub fn brief_is_forgotten()
     ensures { BriefIsForgotten }
+{}
+
+/// And whatever could be told can be told.
+pub fn brief_is_outlived()
+    ensures { BriefIsOutlived }
 {}
