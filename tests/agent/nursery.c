@@ -864,6 +864,9 @@ static void many(JNIEnv *env, struct given *it) {
     for (int at = 0; at < MANY; at++) {
         made[at] = copies(env, it->text);
     }
+    E->PushLocalFrame(env, 4);
+    at_two(env, made[MANY - 1], it->text);
+    E->PopLocalFrame(env, NULL);
     for (int at = 0; at < MANY; at += 2) {
         deletes(env, made[at]);
     }
