@@ -70,8 +70,9 @@ ALWAYS_INLINE const struct lease *leases_find(const struct asked *it, const JNIE
         return NULL;
     }
     const struct lease *lease = leases_place(thread, it);
-    if (!leases_is_of(lease, it) || lease->sum != leases_sum(thread, it) || lease->site->library != thread->last_library ||
-        !is_live || thread->is_pending || !threads_is_caught_up(thread, env, it->frame)) {
+    if (!leases_is_of(lease, it) || lease->sum != leases_sum(thread, it) ||
+        lease->site->library != thread->last_library || !is_live || thread->is_pending ||
+        !threads_is_caught_up(thread, env, it->frame)) {
         return NULL;
     }
     threads_count_passed(thread, 1);

@@ -10,8 +10,10 @@
 #include <jni.h>
 #include <pthread.h>
 #include <stdio.h>
+#include <stdint.h>
 #include <stdlib.h>
 #include <string.h>
+#include <unistd.h>
 
 #define E (*env)
 
@@ -461,6 +463,17 @@ static void deleted_beside(JNIEnv *env, struct given *it) {
     at_deleted_beside(env, made);
 }
 
+/* Calls that aren't counted. */
+static void deletes_beside(JNIEnv *env, struct given *it) {
+    jobject made[WARM];
+    for (int at = 0; at < WARM; at++) {
+        made[at] = copies(env, it->text);
+    }
+    for (int at = 0; at < WARM; at++) {
+        beside(env, "deletes_local", made[at]);
+    }
+}
+
 USE(at_used_beside)
 static void used_beside(JNIEnv *env, struct given *it) {
     jobject made = warm_copy(env, it->text);
@@ -648,6 +661,9 @@ static __attribute__((noinline)) void deletes_in_region(JNIEnv *env, jobject it)
 static void region(JNIEnv *env, struct given *it) {
     jobject made = warm_copy(env, it->text);
     jintArray numbers = E->NewIntArray(env, 3);
+    for (int at = 0; at < WARM; at++) {
+        deletes_in_region(env, copies(env, it->text));
+    }
     void *items = E->GetPrimitiveArrayCritical(env, numbers, NULL);
     deletes_in_region(env, made);
     E->ReleasePrimitiveArrayCritical(env, numbers, items, 0);
@@ -720,6 +736,42 @@ static void in_environment(JNIEnv *env, struct other *it) {
 static void environment(JNIEnv *env, struct given *it) {
     jobject made = warm_copy(env, it->text);
     run_other(env, in_environment, made);
+    deletes(env, made);
+}
+
+/* A thread that stays, with its environment. */
+static JNIEnv *_Atomic others;
+static _Atomic int is_done;
+
+static void *stays(void *none) {
+    JNIEnv *env = NULL;
+    (void)none;
+    (*vm)->AttachCurrentThread(vm, (void **)&env, NULL);
+    others = env;
+    while (!is_done) {
+        usleep(1000);
+    }
+    (*vm)->DetachCurrentThread(vm);
+    return NULL;
+}
+
+static __attribute__((noinline)) void deletes_by(JNIEnv *env, jobject it) {
+    E->DeleteLocalRef(env, it);
+}
+
+static void other_environment(JNIEnv *env, struct given *it) {
+    jobject made = warm_copy(env, it->text);
+    pthread_t thread;
+    pthread_create(&thread, NULL, stays, NULL);
+    while (others == NULL) {
+        usleep(1000);
+    }
+    for (int at = 0; at < WARM; at++) {
+        deletes_by(env, copies(env, it->text));
+    }
+    deletes_by(others, made);
+    is_done = 1;
+    pthread_join(thread, NULL);
     deletes(env, made);
 }
 
@@ -812,6 +864,9 @@ static void many(JNIEnv *env, struct given *it) {
     for (int at = 0; at < MANY; at++) {
         made[at] = copies(env, it->text);
     }
+    E->PushLocalFrame(env, 4);
+    at_two(env, made[MANY - 1], it->text);
+    E->PopLocalFrame(env, NULL);
     for (int at = 0; at < MANY; at += 2) {
         deletes(env, made[at]);
     }
@@ -830,11 +885,40 @@ static void many(JNIEnv *env, struct given *it) {
 USE(at_pairs)
 static void pairs(JNIEnv *env, struct given *it) {
     jobject made = NULL;
-    for (int at = 0; at < MANY; at++) {
+    static uint8_t seen[1 << 20];
+    int count = 0;
+    for (int at = 0; at < 10 * MANY; at++) {
         made = copies(env, it->text);
         deletes(env, made);
+        uint8_t *place = &seen[(uintptr_t)made / sizeof(jobject) % sizeof seen];
+        count += *place == 0;
+        *place = 1;
+    }
+    if (count > 2 * MANY) {
+        wrong("slots aren't used again");
     }
     at_pairs(env, made);
+}
+
+/* No slot of what was deleted lately is used again. */
+static void held_back(JNIEnv *env, struct given *it) {
+    enum { LATELY = 100 };
+    jobject made[LATELY], other[LATELY];
+    for (int at = 0; at < LATELY; at++) {
+        made[at] = copies(env, it->text);
+        deletes(env, made[at]);
+    }
+    for (int at = 0; at < LATELY; at++) {
+        other[at] = copies(env, it->text);
+        for (int before = 0; before < LATELY; before++) {
+            if (made[before] == other[at]) {
+                wrong("a slot is used again");
+            }
+        }
+    }
+    for (int at = 0; at < LATELY; at++) {
+        deletes(env, other[at]);
+    }
 }
 
 static void rows(JNIEnv *env, struct given *it) {
@@ -910,6 +994,7 @@ static const struct {
     {"popped_unpushed", popped_unpushed, "15 PopLocalFrame", "S"},
     {"capacity", capacity, "", ""},
     {"deleted_beside", deleted_beside, "6 IsSameObject", ""},
+    {"deletes_beside", deletes_beside, "", ""},
     {"used_beside", used_beside, "6 IsSameObject", ""},
     {"left", left, "6 IsSameObject", ""},
     {"left_dead", left_dead, "6 IsSameObject", ""},
@@ -929,10 +1014,12 @@ static const struct {
     {"foreign_then_dead", foreign_then_dead, "5 IsSameObject;6 IsSameObject", ""},
     {"foreign_deleted", foreign_deleted, "5 DeleteLocalRef", "S"},
     {"environment", environment, "1 DeleteLocalRef", "S"},
+    {"other_environment", other_environment, "1 DeleteLocalRef", "S"},
     {"ended_thread", ended_thread, "5 IsSameObject", "S"},
     {"threads", threads, "", ""},
     {"many", many, "6 IsSameObject", ""},
     {"pairs", pairs, "6 IsSameObject", ""},
+    {"held_back", held_back, "", "H"},
     {"rows", rows, "", ""},
     {"reused", reused, "6 IsSameObject", ""},
     {"exchanged", exchanged, "?", "X"},
