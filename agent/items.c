@@ -5,7 +5,7 @@
 
 #include <string.h>
 
-enum { PIECE = 2048 };
+enum { PIECE = 2048, MANY = 8 };
 
 static inline uint64_t word_at(const unsigned char *at) {
     uint64_t word;
@@ -65,14 +65,23 @@ size_t items_other_byte(const unsigned char *items, unsigned char byte, size_t a
     return at;
 }
 
-size_t items_end_of_changed(const unsigned char *one, const unsigned char *other, size_t at, size_t end, size_t size) {
-    /* Of each item of eight bytes the lowest bit, and the highest. */
-    const uint64_t lowest = UINT64_MAX / (UINT64_MAX >> (64 - 8 * size)), highest = lowest << (8 * size - 1);
-    while (at + 8 <= end) {
+/* Whether an item of these words is the same in both. Of each item in a word `lowest` has its lowest bit. */
+static inline int has_unchanged(const unsigned char *one, const unsigned char *other, size_t words, uint64_t lowest,
+                                uint64_t highest) {
+    uint64_t unchanged = 0;
+    for (size_t at = 0; at < 8 * words; at += 8) {
         uint64_t change = word_at(one + at) ^ word_at(other + at);
-        if (((change - lowest) & ~change & highest) != 0) {
-            break; /* an item is as it was */
-        }
+        unchanged |= (change - lowest) & ~change & highest;
+    }
+    return unchanged != 0;
+}
+
+size_t items_end_of_changed(const unsigned char *one, const unsigned char *other, size_t at, size_t end, size_t size) {
+    const uint64_t lowest = UINT64_MAX / (UINT64_MAX >> (64 - 8 * size)), highest = lowest << (8 * size - 1);
+    while (at + 8 * MANY <= end && !has_unchanged(one + at, other + at, MANY, lowest, highest)) {
+        at += 8 * MANY;
+    }
+    while (at + 8 <= end && !has_unchanged(one + at, other + at, 1, lowest, highest)) {
         at += 8;
     }
     while (at < end && memcmp(one + at, other + at, size) != 0) {
