@@ -14,6 +14,7 @@
 #include "objects.h"
 #include "options.h"
 #include "quarantine.h"
+#include "repeats.h"
 #include "stacks.h"
 
 #include <limits.h>
@@ -106,6 +107,7 @@ static void let_go(void *which) {
         pthread_setspecific(ending, thread);
         return;
     }
+    repeats_forget(thread);
     if (thread->is_attached) {
         return;
     }
