@@ -5,6 +5,7 @@ import java.util.concurrent.CountDownLatch;
 public class Crowd {
     static native void joins();
     static native double uses(Object object, int count);
+    static native void repeats(String text, int count);
 
     static double beside(int count) throws InterruptedException {
         CountDownLatch joined = new CountDownLatch(count), ended = new CountDownLatch(1);
@@ -33,8 +34,23 @@ public class Crowd {
         return least;
     }
 
+    static void repeat(int threads, int count) {
+        for (int at = 0; at < threads; at++) {
+            String text = "text of " + at;
+            new Thread(() -> {
+                for (int turn = 0; turn < count; turn++) {
+                    repeats(text, 1000);
+                }
+            }).start();
+        }
+    }
+
     public static void main(String[] counts) throws InterruptedException {
         System.loadLibrary("crowd");
+        if (counts[0].equals("repeats")) {
+            repeat(4, Integer.parseInt(counts[1]));
+            return;
+        }
         for (String count : counts) {
             System.out.printf(Locale.ROOT, "%s threads: %.0f%n", count, beside(Integer.parseInt(count)));
         }

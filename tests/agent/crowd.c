@@ -1,5 +1,6 @@
 /*
- * crowd.c: native code that uses references which a library made that isn't judged (aside.c), beside many threads.
+ * crowd.c: native code that uses references which a library made that isn't judged (aside.c), beside many threads; and
+ * that repeats its calls.
  */
 #include <jni.h>
 #include <time.h>
@@ -33,4 +34,16 @@ JNIEXPORT jdouble JNICALL Java_Crowd_uses(JNIEnv *env, jclass class, jobject obj
         aside_deletes(env, made);
     }
     return time / count;
+}
+
+/* Calls that are repeated, and now and then others. */
+JNIEXPORT void JNICALL Java_Crowd_repeats(JNIEnv *env, jclass class, jstring text, jint count) {
+    (void)class;
+    for (jint at = 0; at < count; at++) {
+        E->GetStringLength(env, text);
+        E->GetVersion(env);
+        if (at % 50 == 0) {
+            E->DeleteLocalRef(env, E->NewLocalRef(env, text));
+        }
+    }
 }
