@@ -201,7 +201,9 @@ int record_put(struct part *part, const char *lines, size_t size) {
 static int take_part(struct part *part, uint64_t facts, size_t size) {
     pthread_mutex_lock(&lock);
     int was_used = part->facts == facts;
-    close_part(part);
+    if (is_mapped) {
+        close_part(part);
+    }
     part->wanted = !was_used ? size : 2 * part->wanted < MOST_PART ? 2 * part->wanted : MOST_PART;
     size_t length = part->wanted >= size + COMMENT ? part->wanted : size;
     int is_good = is_mapped && core_facts == facts && make_room(length) == 0;
