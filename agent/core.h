@@ -89,7 +89,7 @@ int core_needs_all(void);
 /* Whether a question that passed needn't be asked again, as long as no fact was told: core_repeats says whether. */
 int core_may_repeat(void);
 
-/* The question passed when so many facts had been told. Whether it passes again: where there is a record it stands there. */
+/* The question passed when so many facts had been told. Whether it passes again: a record has it then. */
 int core_repeats(const struct question *question, uint64_t facts);
 
 /* Tells how long the machine says that the object is. Not between core_lock and core_unlock. */

@@ -3,9 +3,9 @@
  *
  * A regular file is mapped into memory, and lines are copied there: so no call of the system is made for them, and what
  * was copied is in the file whatever becomes of this process. Its end, behind the last line, has comments alone: `#`,
- * any bytes, and a line feed. So is what is left of each part. A line is copied into a comment from its second byte on, a
- * new comment begins behind it, and last the line's first byte takes the place of the `#`. So at each moment the file
- * has whole lines alone, and `jg watch` can read what a process left behind that was killed.
+ * any bytes, and a line feed. So has what is left of each part. A line is copied into a comment from its second byte
+ * on, a new comment begins behind it, and last the line's first byte takes the place of the `#`. So at each moment the
+ * file has whole lines alone, and `jg watch` can read what a process left behind that was killed.
  *
  * Into any other file lines are written by a call of the system, before the core's lock is free.
  */

@@ -1,8 +1,8 @@
 /*
  * stacks.c: on which thread's stack an address is.
  *
- * The stacks stand in a table in the order of their addresses. Those of threads that live don't overlap, so one is found
- * by bisection, whatever the number of threads.
+ * The stacks stand in a table in the order of their addresses. Those of threads that live don't overlap, so one is
+ * found by bisection, whatever the number of threads.
  */
 #include "stacks.h"
 #include "agent.h"
