@@ -30,8 +30,8 @@ int record_has_parts(void);
 int record_put(struct part *part, const char *lines, size_t size);
 
 /*
- * Puts one line into the part of this thread, behind all facts of which so many were told, and before any other. Whether
- * it did: else more facts were told meanwhile, or there are no parts.
+ * Puts one line into the part of this thread, behind all facts of which so many were told, and before any other.
+ * Whether it did: else more facts were told meanwhile, or there are no parts.
  */
 int record_put_in(struct part *part, uint64_t facts, const char *line, size_t size);
 
