@@ -10,6 +10,7 @@
 #include "core.h"
 #include "forks.h"
 #include "caller_state.h"
+#include "items.h"
 #include "names.h"
 #include "objects.h"
 #include "quarantine.h"
@@ -19,7 +20,7 @@
 #include <stdlib.h>
 #include <string.h>
 
-enum { ZONE = 256, ZONE_BYTE = 0xA5, GIVEN_BYTE = 0xD6, FEWEST_LISTS = 256, MOST_TOLD = 8 };
+enum { ZONE = 256, ZONE_BYTE = 0xA5, GIVEN_BYTE = 0xD6, FEWEST_LISTS = 256, MOST_TOLD = 8, PART = 1024 };
 
 /* A pair of calls, of which the second is yet to come. */
 struct pair {
@@ -34,6 +35,7 @@ struct lent {
     struct lent *next;     /* of the same list of the table */
     struct lent *held;     /* the next that was given back */
     struct lent *critical; /* the next open critical one */
+    struct lent *before;   /* the one that was given back whose block this one has, until that was looked at */
     unsigned char *block;
     unsigned char *at;     /* what native code was handed */
     unsigned char *was;    /* of a critical one: its items as they were lent or handed on; else NULL */
@@ -64,7 +66,6 @@ static size_t list_count, lent_count;
 static struct lent *oldest, **newest = &oldest;
 static size_t held_count;
 static struct lent *criticals; /* those that are open */
-static unsigned char clean[ZONE];
 
 static struct lent **list_of(const void *at) {
     return &lists[((uintptr_t)at * 0x9E3779B97F4A7C15u >> 32) & (list_count - 1)];
@@ -110,16 +111,6 @@ static void insert(struct lent *lent) {
     add_to_list(lent);
 }
 
-/* Under the lock. */
-static void take_out(struct lent *lent) {
-    struct lent **link = list_of(lent->at);
-    while (*link != lent) {
-        link = &(*link)->next;
-    }
-    *link = lent->next;
-    lent_count--;
-}
-
 /* Whether the end is looked at: then other threads may still give back, and nothing is freed. */
 static _Atomic int is_ended;
 
@@ -138,12 +129,22 @@ static int was_freed(const void *at) {
     return 0;
 }
 
+/* Under the lock. */
+static void take_out(struct lent *lent) {
+    struct lent **link = list_of(lent->at);
+    while (*link != lent) {
+        link = &(*link)->next;
+    }
+    *link = lent->next;
+    lent_count--;
+    if (!lent->is_plain) {
+        freed[freed_count++ % MOST_FREED] = lent->at;
+    }
+}
+
 static void let_go(struct lent *lent) {
     if (is_ended) {
         return;
-    }
-    if (!lent->is_plain) {
-        freed[freed_count++ % MOST_FREED] = lent->at;
     }
     objects_drop(lent->object);
     pthread_mutex_destroy(&lent->items);
@@ -259,125 +260,62 @@ static int close_pair(struct lent *lent, struct pair *pair) {
 
 /* ---- stores ---- */
 
-static int64_t item_at(const struct lent *lent, const unsigned char *at) {
-    int16_t two;
-    uint16_t unit;
-    int32_t four;
-    int64_t eight;
-    switch (lent->shape) {
-    case 'J':
-    case 'D':
-        memcpy(&eight, at, sizeof eight);
-        return eight;
-    case 'I':
-    case 'F':
-        memcpy(&four, at, sizeof four);
-        return four;
-    case 'S':
-        memcpy(&two, at, sizeof two);
-        return two;
-    case 'C':
-        memcpy(&unit, at, sizeof unit);
-        return unit;
-    case 'B':
-        return (int8_t)*at;
-    default:
-        return *at;
-    }
-}
-
 /* Where it is seen that something was stored: in the call whose wrapper has this frame, if there is one. */
 struct seen {
     const struct site *site;
     uintptr_t frame;
 };
 
-/* Asks whether this may have been stored. */
-static void ask_store(struct lent *lent, const struct seen *seen, int64_t index, int64_t value) {
+/* An item that was stored into a copy, or beside it; or none. */
+struct store {
+    int is_found;
+    int64_t index, value;
+};
+
+static struct store store_at(const struct lent *lent, size_t at) {
+    size_t size = objects_item_size(lent->shape);
+    return (struct store){1, (int64_t)(at / size), items_value(lent->shape, lent->at + at / size * size)};
+}
+
+/* One item of a zone that was changed: the nearest behind the end, else the nearest before the beginning. */
+static struct store store_in_zones(const struct lent *lent) {
+    const unsigned char *end = lent->at + lent->bytes, *begin = lent->at - ZONE;
+    size_t size = objects_item_size(lent->shape), at = items_other_byte(end, ZONE_BYTE, 0, ZONE);
+    if (at < ZONE) {
+        return (struct store){1, (int64_t)((lent->bytes + at) / size), end[at]};
+    }
+    if (items_other_byte(begin, ZONE_BYTE, 0, ZONE) == ZONE) {
+        return (struct store){0, 0, 0};
+    }
+    for (at = ZONE - 1; at > 0 && begin[at] == ZONE_BYTE; at--) {
+    }
+    return (struct store){1, -(int64_t)((ZONE - at + size - 1) / size), begin[at]};
+}
+
+/* Asks whether this may have been stored, where something was. */
+static void ask_store(struct lent *lent, const struct seen *seen, struct store store) {
     struct thread *thread = threads_self();
     struct call call;
-    if (!threads_is_numbered(thread)) {
+    if (!store.is_found || !threads_is_numbered(thread)) {
         return;
     }
     call_opens(&call, JG_FN_BufferWrite, thread, seen->site);
     call.frame = seen->frame;
     call.lent = lent;
     call_operand(&call, newest_name(lent, thread));
-    call_number(&call, (int32_t)index);
-    call_item(&call, value);
+    call_number(&call, (int32_t)store.index);
+    call_item(&call, store.value);
     if (call_passes(&call)) {
         call_drops(&call);
     }
 }
 
-/* One item of a zone that was changed: the nearest behind the end, and the nearest before the beginning. */
-static void look_at_zones(struct lent *lent, const struct seen *seen) {
-    const unsigned char *end = lent->at + lent->bytes;
-    size_t size = objects_item_size(lent->shape), at = 0;
-    if (memcmp(end, clean, ZONE) != 0) {
-        while (end[at] == ZONE_BYTE) {
-            at++;
-        }
-        ask_store(lent, seen, (int64_t)((lent->bytes + at) / size), end[at]);
-        return;
-    }
-    if (memcmp(lent->block, clean, ZONE) != 0) {
-        at = ZONE - 1;
-        while (lent->block[at] == ZONE_BYTE) {
-            at--;
-        }
-        ask_store(lent, seen, -(int64_t)((ZONE - at + size - 1) / size), lent->block[at]);
-    }
-}
-
-enum { PIECE = 2048 };
-
-static inline uint64_t word_at(const unsigned char *at) {
-    uint64_t word;
-    memcpy(&word, at, sizeof word);
-    return word;
-}
-
-/* The first place from `at` on where the two differ, or `size`. Other threads may store meanwhile. */
-static size_t difference(const unsigned char *one, const unsigned char *other, size_t at, size_t size) {
-    while (at < size) {
-        size_t piece = size - at < PIECE ? size - at : PIECE;
-        if (memcmp(one + at, other + at, piece) != 0) {
-            while (at + 8 <= size && memcmp(one + at, other + at, 8) == 0) {
-                at += 8;
-            }
-            while (at < size && one[at] == other[at]) {
-                at++;
-            }
-            return at;
-        }
-        at += piece;
-    }
-    return size;
-}
-
-/* The first place from `at` on where a boolean was stored that is none, or the size. */
-static size_t wrong_boolean(const struct lent *lent, const unsigned char *was, size_t at) {
-    const uint64_t others = 0xFEFEFEFEFEFEFEFEu;
-    while (at < lent->bytes) {
-        uint64_t eight = at + sizeof eight <= lent->bytes ? word_at(lent->at + at) : others;
-        if ((eight & others) == 0) {
-            at += sizeof eight;
-        } else if (lent->at[at] > 1 && lent->at[at] != was[at]) {
-            return at;
-        } else {
-            at++;
-        }
-    }
-    return lent->bytes;
-}
-
 /* Changed items: the first, and those that are no value of the type. The first place where one was changed. */
 static size_t look_at_items(struct lent *lent, const unsigned char *was, const struct seen *seen) {
-    size_t size = objects_item_size(lent->shape), first = difference(lent->at, was, 0, lent->bytes), told = 0;
+    size_t first = items_difference(lent->at, was, 0, lent->bytes), told = 0;
     for (size_t at = first; at < lent->bytes && told < MOST_TOLD; told++) {
-        ask_store(lent, seen, (int64_t)(at / size), item_at(lent, lent->at + at / size * size));
-        at = lent->shape == 'Z' ? wrong_boolean(lent, was, at + 1) : lent->bytes;
+        ask_store(lent, seen, store_at(lent, at));
+        at = lent->shape == 'Z' ? items_wrong_boolean(lent->at, was, at + 1, lent->bytes) : lent->bytes;
     }
     return first;
 }
@@ -395,28 +333,11 @@ static size_t look(struct lent *lent, const struct seen *seen) {
     if (was != NULL) {
         first = look_at_items(lent, was, seen);
     }
-    look_at_zones(lent, seen);
+    ask_store(lent, seen, store_in_zones(lent));
     return is_shared(lent) ? 0 : first;
 }
 
 /* ---- copying ---- */
-
-/* The end of the items from `at` on that all differ, of this size: 1, 2, 4 or 8. */
-static size_t end_of_changed(const unsigned char *one, const unsigned char *other, size_t at, size_t end, size_t size) {
-    /* Of each item of eight bytes the lowest bit, and the highest. */
-    const uint64_t lowest = UINT64_MAX / (UINT64_MAX >> (64 - 8 * size)), highest = lowest << (8 * size - 1);
-    while (at + 8 <= end) {
-        uint64_t change = word_at(one + at) ^ word_at(other + at);
-        if (((change - lowest) & ~change & highest) != 0) {
-            break; /* an item is as it was */
-        }
-        at += 8;
-    }
-    while (at < end && memcmp(one + at, other + at, size) != 0) {
-        at += size;
-    }
-    return at;
-}
 
 /*
  * What was stored into a critical buffer goes into the machine's memory: only items that differ from what was lent. The
@@ -425,10 +346,10 @@ static size_t end_of_changed(const unsigned char *one, const unsigned char *othe
  */
 static void hand_on(struct lent *lent, unsigned char *memory, size_t first) {
     size_t size = objects_item_size(lent->shape);
-    for (size_t at = difference(lent->at, lent->was, first, lent->bytes); at < lent->bytes;
-         at = difference(lent->at, lent->was, at, lent->bytes)) {
+    for (size_t at = items_difference(lent->at, lent->was, first, lent->bytes); at < lent->bytes;
+         at = items_difference(lent->at, lent->was, at, lent->bytes)) {
         size_t begun = at / size * size;
-        at = end_of_changed(lent->at, lent->was, begun, lent->bytes, size);
+        at = items_end_of_changed(lent->at, lent->was, begun, lent->bytes, size);
         at = at > begun ? at : begun + size;
         memcpy(lent->was + begun, lent->at + begun, at - begun);
         memcpy(memory + begun, lent->was + begun, at - begun);
@@ -439,8 +360,8 @@ static void hand_on(struct lent *lent, unsigned char *memory, size_t first) {
 static void fetch(struct lent *lent, const unsigned char *memory) {
     size_t size = objects_item_size(lent->shape);
     unsigned char item[8];
-    for (size_t at = difference(memory, lent->was, 0, lent->bytes); at < lent->bytes;
-         at = difference(memory, lent->was, at, lent->bytes)) {
+    for (size_t at = items_difference(memory, lent->was, 0, lent->bytes); at < lent->bytes;
+         at = items_difference(memory, lent->was, at, lent->bytes)) {
         at = at / size * size;
         memcpy(item, memory + at, size);
         if (memcmp(lent->at + at, lent->was + at, size) == 0) {
@@ -475,6 +396,57 @@ static void copy_back(struct lent *lent, unsigned char *memory, size_t first) {
     pthread_mutex_unlock(&lent->items);
 }
 
+/* ---- what is held back ---- */
+
+/* What was stored between these places after the copy was given back. */
+static struct store late_store(const struct lent *lent, size_t at, size_t end) {
+    at = lent->was != NULL ? items_difference(lent->at, lent->was, at, end)
+                           : items_other_byte(lent->at, GIVEN_BYTE, at, end);
+    return at < end ? store_at(lent, at) : (struct store){0, 0, 0};
+}
+
+static void tell_late(struct lent *lent, struct store late) {
+    const struct seen seen = {lent->given ? lent->given : lent->made, 0};
+    ask_store(lent, &seen, late);
+}
+
+static void look_at_given(struct lent *lent) {
+    struct store late = late_store(lent, 0, lent->bytes);
+    tell_late(lent, late.is_found ? late : store_in_zones(lent));
+}
+
+/* The copy that was given back longest ago is held no longer. Under the lock. */
+static struct lent *take_first(void) {
+    struct lent *taken = oldest;
+    oldest = taken->held;
+    newest = oldest ? newest : &oldest;
+    held_count--;
+    quarantine_bytes -= (int64_t)taken->bytes;
+    take_out(taken);
+    return taken;
+}
+
+/* The same where too many are kept, or NULL. */
+static struct lent *take_oldest(size_t most) {
+    spin_lock(&lock);
+    int is_over = held_count > most || (held_count > 0 && quarantine_is_full(0));
+    struct lent *taken = is_over ? take_first() : NULL;
+    spin_unlock(&lock);
+    return taken;
+}
+
+/* The same where the new copy would be one too many once it is given back, and can have its block. */
+static struct lent *take_fitting(const struct lent *fresh) {
+    size_t most = (size_t)options.quarantine / 4;
+    spin_lock(&lock);
+    int fits = held_count > 0 && !is_ended && oldest->bytes == fresh->bytes &&
+               is_critical(oldest->family) == is_critical(fresh->family) &&
+               (held_count >= most || quarantine_is_full(fresh->bytes));
+    struct lent *taken = fits ? take_first() : NULL;
+    spin_unlock(&lock);
+    return taken;
+}
+
 /* ---- lending ---- */
 
 /* Room for the copy between its zones, and behind them for the items as they were lent. */
@@ -485,16 +457,78 @@ static void make_block(struct lent *lent, int keeps_was) {
     lent->was = keeps_was ? lent->at + padded + ZONE : NULL;
 }
 
-static void fill_block(struct lent *lent) {
-    size_t items = (size_t)lent->count * objects_item_size(lent->shape);
-    memset(lent->block, ZONE_BYTE, ZONE);
-    memcpy(lent->at, lent->memory, items);
-    /* What stands behind a string's units needn't be the string's: code that looks for an end finds one. */
-    memset(lent->at + items, 0, lent->bytes - items);
-    memset(lent->at + lent->bytes, ZONE_BYTE, ZONE);
-    if (lent->was != NULL) {
-        memcpy(lent->was, lent->at, lent->bytes);
+/* The block of a copy that has to go soon, or a new one. */
+static void take_block(struct lent *lent) {
+    struct lent *before = take_fitting(lent);
+    if (before == NULL) {
+        make_block(lent, is_critical(lent->family));
+        return;
     }
+    lent->before = before;
+    lent->block = before->block;
+    lent->at = before->at;
+    lent->was = before->was;
+    before->block = NULL;
+}
+
+/*
+ * Fills the copy, part by part where its block was another's: what was stored late into that is looked for in each part
+ * first, so that memory comes into the processor's cache once for both.
+ */
+static struct store fill_items(struct lent *lent) {
+    const size_t items = (size_t)lent->count * objects_item_size(lent->shape);
+    struct store late = {0, 0, 0};
+    for (size_t at = 0, part = 0; at < items; at += part) {
+        part = lent->before == NULL || late.is_found || items - at < PART ? items - at : PART;
+        if (lent->before != NULL && !late.is_found) {
+            late = late_store(lent->before, at, at + part);
+        }
+        memcpy(lent->at + at, lent->memory + at, part);
+        if (lent->was != NULL) {
+            memcpy(lent->was + at, lent->at + at, part);
+        }
+    }
+    if (lent->before != NULL && !late.is_found) {
+        late = late_store(lent->before, items, lent->bytes);
+    }
+    /* What stands behind a string's units needn't be the string's: code that looks for an end finds one. */
+    for (size_t at = items; at < lent->bytes; at++) {
+        lent->at[at] = 0;
+    }
+    if (lent->was != NULL) {
+        memset(lent->was + items, 0, lent->bytes - items);
+    }
+    return late;
+}
+
+/* Fills the block. What was stored late into the copy that had it before. */
+static struct store fill_block(struct lent *lent) {
+    struct store late = fill_items(lent);
+    if (lent->before != NULL && !late.is_found) {
+        late = store_in_zones(lent->before);
+    }
+    memset(lent->block, ZONE_BYTE, ZONE);
+    memset(lent->at + lent->bytes, ZONE_BYTE, ZONE);
+    return late;
+}
+
+/* What was stored late into the copy that had the block before is told, and that one is let go. */
+static void let_go_before(struct lent *lent, struct store late) {
+    struct lent *before = lent->before;
+    if (before != NULL) {
+        lent->before = NULL;
+        tell_late(before, late);
+        let_go(before);
+    }
+}
+
+/* The same of a block that nobody filled. */
+static void drop_unfilled(struct lent *lent) {
+    if (lent->before != NULL) {
+        look_at_given(lent->before);
+        let_go_before(lent, (struct store){0, 0, 0});
+    }
+    let_go(lent);
 }
 
 static char shape_of(uint32_t family, const struct object *object) {
@@ -533,7 +567,7 @@ static struct lent *make_lent(struct call *call, void *memory, uint32_t count, c
     made->made_by = (uint16_t)call->function;
     made->object = objects_hold(call->first.object);
     pthread_mutex_init(&made->items, NULL);
-    make_block(made, is_critical(family));
+    take_block(made);
     return made;
 }
 
@@ -572,14 +606,13 @@ static struct lent *lend_critical(struct call *call, void *memory, char shape, c
             insert(made);
         }
         spin_unlock(&lock);
-        if (open == NULL) {
-            fill_block(made);
-        }
+        struct store late = open == NULL ? fill_block(made) : (struct store){0, 0, 0};
         pthread_mutex_unlock(&made->items);
         if (open == NULL) {
+            let_go_before(made, late);
             return made;
         }
-        let_go(made);
+        drop_unfilled(made);
     }
     exchange(open, memory);
     return open;
@@ -588,10 +621,11 @@ static struct lent *lend_critical(struct call *call, void *memory, char shape, c
 static struct lent *lend_copy(struct call *call, void *memory, uint32_t count, char shape, const struct pair *pair) {
     struct lent *made = make_lent(call, memory, count, shape);
     add_pair(made, pair);
-    fill_block(made);
+    struct store late = fill_block(made);
     spin_lock(&lock);
     insert(made);
     spin_unlock(&lock);
+    let_go_before(made, late);
     return made;
 }
 
@@ -828,46 +862,6 @@ static void hold_back(struct lent *lent) {
     spin_unlock(&lock);
 }
 
-/* Where a copy was changed after it was given back, or its size. */
-static size_t changed_later(const struct lent *lent) {
-    if (lent->was != NULL) {
-        return difference(lent->at, lent->was, 0, lent->bytes);
-    }
-    if (lent->bytes == 0 || (lent->at[0] == GIVEN_BYTE && memcmp(lent->at, lent->at + 1, lent->bytes - 1) == 0)) {
-        return lent->bytes;
-    }
-    size_t at = 0;
-    while (lent->at[at] == GIVEN_BYTE) {
-        at++;
-    }
-    return at;
-}
-
-static void look_at_given(struct lent *lent) {
-    const struct seen seen = {lent->given ? lent->given : lent->made, 0};
-    size_t at = changed_later(lent), size = objects_item_size(lent->shape);
-    if (at < lent->bytes) {
-        ask_store(lent, &seen, (int64_t)(at / size), item_at(lent, lent->at + at / size * size));
-    } else {
-        look_at_zones(lent, &seen);
-    }
-}
-
-/* The copy that was given back longest ago, where too many are kept. */
-static struct lent *take_oldest(size_t most) {
-    spin_lock(&lock);
-    struct lent *taken = held_count > most || (held_count > 0 && quarantine_is_full(0)) ? oldest : NULL;
-    if (taken != NULL) {
-        oldest = taken->held;
-        newest = oldest ? newest : &oldest;
-        held_count--;
-        quarantine_bytes -= (int64_t)taken->bytes;
-        take_out(taken);
-    }
-    spin_unlock(&lock);
-    return taken;
-}
-
 /* Whether the copy was given back and nobody saw to it yet. */
 static int is_left(struct lent *lent) {
     spin_lock(&lock);
@@ -976,7 +970,7 @@ static void look_at_open(struct lent *lent) {
     spin_unlock(&lock);
     if (is_open && was != NULL) {
         look_at_items(lent, was, &seen);
-        look_at_zones(lent, &seen);
+        ask_store(lent, &seen, store_in_zones(lent));
     } else if (is_open) {
         look(lent, &seen);
     }
@@ -1009,10 +1003,6 @@ void buffers_end(seeing_pair see, void *with) {
         }
     }
     free(all);
-}
-
-__attribute__((constructor)) static void open_zones(void) {
-    memset(clean, ZONE_BYTE, sizeof clean);
 }
 
 void buffers_each_site(void (*see)(const struct site *site)) {

@@ -537,11 +537,11 @@ void call_drops(struct call *call) {
 }
 
 /*
- * The memo for such a question, or NULL: of calls that begin and end nothing. A record has each question, and advice is
- * of each, so then there is none.
+ * The memo for such a question, or NULL: of calls that begin and end nothing. Advice is of each question, so then there
+ * is none.
  */
 static struct memo *memo_of(const struct call *call) {
-    if (call->row->effect != EFFECT_NOTHING || call->is_ending || call->count > MEMO_OPERANDS || core_needs_all()) {
+    if (call->row->effect != EFFECT_NOTHING || call->is_ending || call->count > MEMO_OPERANDS || !core_may_repeat()) {
         return NULL;
     }
     uint64_t number = call->count > 0 ? call->operands[0].number : 0;
@@ -558,15 +558,6 @@ static int is_repeated(const struct call *call, const struct memo *memo) {
     return is_same;
 }
 
-static void remember(const struct call *call, struct memo *memo, uint64_t facts) {
-    memo->facts = facts;
-    memo->function = call->function;
-    memo->count = (uint32_t)call->count;
-    memo->env_name = call->env_name;
-    memcpy(memo->operands, call->operands, call->count * sizeof *call->operands);
-    memo->ticket = call->verdict.ticket;
-}
-
 struct question call_question(const struct call *call) {
     return (struct question){.thread = call->thread->number,
                              .function = call->function,
@@ -575,6 +566,28 @@ struct question call_question(const struct call *call) {
                              .count = call->count,
                              .site = call->site,
                              .names = call->texts};
+}
+
+/* The question passes again. A record has it all the same. */
+static int is_noted(const struct call *call, const struct memo *memo) {
+    struct kept kept;
+    if (!core_is_recorded()) {
+        return 1;
+    }
+    struct question question = call_question(call);
+    keep(&kept);
+    int is = core_repeats(&question, memo->facts);
+    restore(&kept);
+    return is;
+}
+
+static void remember(const struct call *call, struct memo *memo, uint64_t facts) {
+    memo->facts = facts;
+    memo->function = call->function;
+    memo->count = (uint32_t)call->count;
+    memo->env_name = call->env_name;
+    memcpy(memo->operands, call->operands, call->count * sizeof *call->operands);
+    memo->ticket = call->verdict.ticket;
 }
 
 /* Asks the core. Whether it answered. */
@@ -623,7 +636,7 @@ static int passes(struct call *call, struct memo *memo) {
 
 int call_passes(struct call *call) {
     struct memo *memo = call->is_lost || call->notice != NULL ? NULL : memo_of(call);
-    if (memo != NULL && is_repeated(call, memo)) {
+    if (memo != NULL && is_repeated(call, memo) && is_noted(call, memo)) {
         call->verdict.rule = JG_PASSED;
         call->verdict.operand = 0;
         call->verdict.ticket = memo->ticket;
@@ -782,11 +795,7 @@ void call_checks_length(struct call *call, jsize length) {
     if ((uint32_t)length != object->length || core_is_recorded()) {
         struct kept kept;
         keep(&kept);
-        core_lock();
-        core_tell(jg_fact_of(JG_IS_LENGTH, call->thread->number, jg_nothing(), jg_object(object->number), 0,
-                             (uint32_t)length),
-                  NULL);
-        core_unlock();
+        core_tell_length(call->thread->number, object->number, (uint32_t)length);
         restore(&kept);
     }
 }

@@ -2,13 +2,15 @@
  * core.c: the core of libjg under its one lock, the adviser beside it, and the record.
  *
  * The record is text that `jg watch` judges again (docs/FORMATS.md, "A record"). Its lines are gathered while the lock
- * is held, and written by one write before the machine makes the call: so a crash loses no line.
+ * is held, and put into the file before that is free, and so before the machine makes the call: a crash loses no line.
  */
 #include "core.h"
 #include "forks.h"
 #include "leases.h"
 #include "objects.h"
 #include "options.h"
+#include "record.h"
+#include "repeats.h"
 #include "report.h"
 #include "sites.h"
 #include "table.h"
@@ -41,7 +43,6 @@ static const char NO_SETUP[] = "version = 1\nillegal_native_access = \"deny\"\n"
 
 /* ---- the record ---- */
 
-static int record = -1;
 static char *lines;
 static size_t line_size, line_room;
 
@@ -85,23 +86,12 @@ static void put_line(const uint8_t *made, int64_t length) {
     }
 }
 
-/*
- * Writes all that was gathered. A device that fails ends the record. A forked child writes nothing. errno is the
- * caller's.
- */
+/* All that was gathered stands in the file. A device that fails ends the record. */
 static void write_lines(void) {
-    size_t done = agent_is_forked() ? line_size : 0;
-    int kept = errno;
-    while (record >= 0 && done < line_size) {
-        ssize_t count = write(record, lines + done, line_size - done);
-        if (count < 0 && errno != EINTR) {
-            untold.record = errno;
-            close(record);
-            record = -1;
-        }
-        done += count > 0 ? (size_t)count : 0;
+    int error = record_put(repeats_part(), lines, line_size);
+    if (error != 0) {
+        untold.record = error;
     }
-    errno = kept;
     line_size = 0;
 }
 
@@ -136,25 +126,29 @@ static void put_question(const char *made, size_t size, const char *const *names
     put(made + done, size - done);
 }
 
+/* The name of a library's file has at most 255 bytes, and each is spelled by four at most. */
+enum { END_ROOM = 1200 };
+
+int core_end_of_question(uint32_t rule, const struct site *site, char *text, size_t room) {
+    char answer[64];
+    core_answer_text(rule, answer, sizeof answer);
+    if (site == NULL) {
+        return snprintf(text, room, " = %s\n", answer);
+    }
+    return snprintf(text, room, " = %s @ %s+0x%lx\n", answer, site->library->name, (unsigned long)site->offset);
+}
+
 static void record_question(const struct question *it, const jg_verdict *verdict) {
     uint8_t *line = line_of_library();
-    char text[512];
+    char text[END_ROOM];
     int64_t size = jg_question_line(&core, it->thread, it->env, it->function, it->operands, it->count, line, JG_LINE);
     if (size < 0) {
         put_line(line, size);
     } else {
         put_question((const char *)line, (size_t)size, it->names);
     }
-    core_answer_text(verdict->rule, text, sizeof text);
-    put_text(" = ");
+    core_end_of_question(verdict->rule, it->site, text, sizeof text);
     put_text(text);
-    if (it->site != NULL) {
-        snprintf(text, sizeof text, "+0x%lx", (unsigned long)it->site->offset);
-        put_text(" @ ");
-        put_text(it->site->library->name);
-        put_text(text);
-    }
-    put_text("\n");
 }
 
 static void record_fact(const jg_fact *fact, const jg_value *given) {
@@ -239,9 +233,7 @@ static int open_record(void) {
     if (options.record == NULL) {
         return 0;
     }
-    record = open(options.record, O_WRONLY | O_CREAT | O_TRUNC | O_APPEND | O_CLOEXEC, 0666);
-    if (record < 0) {
-        fprintf(stderr, "jg: %s can't be opened: %s\n", options.record, strerror(errno));
+    if (record_open(options.record) != 0) {
         return -1;
     }
     put_text("# a record of the agent of jg; `jg watch` judges it again\n");
@@ -249,15 +241,20 @@ static int open_record(void) {
     return 0;
 }
 
-int core_open(void) {
+/* The setup's text stays, for the cores that only write lines. */
+static const char *setup = NO_SETUP;
+static size_t setup_size = sizeof NO_SETUP - 1;
+
+int core_open_scribe(jg_core *scribe) {
     const jg_bounds bounds = jg_no_bounds();
-    size_t size = sizeof NO_SETUP - 1;
-    char *text = NULL;
-    if (options.setup != NULL && (text = read_file(options.setup, &size)) == NULL) {
+    return jg_core_open(jg_bytes(setup), setup_size, &bounds, JG_VERSION, scribe);
+}
+
+int core_open(void) {
+    if (options.setup != NULL && (setup = read_file(options.setup, &setup_size)) == NULL) {
         return -1;
     }
-    int32_t error = jg_core_open(jg_bytes(text ? text : NO_SETUP), size, &bounds, JG_VERSION, &core);
-    free(text);
+    int32_t error = core_open_scribe(&core);
     if (error != 0) {
         fprintf(stderr, "jg: %s: %s\n", options.setup ? options.setup : "the core", jg_error_string(error));
         return -1;
@@ -355,7 +352,7 @@ static void unsettle_by_ending(const struct question *it) {
 
 /* The core took the fact: it is recorded, and the adviser hears of it. */
 static void note_fact(const jg_fact *fact, const jg_value *given) {
-    if (record >= 0) {
+    if (record_is_open()) {
         record_fact(fact, given);
     }
     if (is_advising) {
@@ -396,14 +393,14 @@ int32_t core_ask(const struct question *it, jg_verdict *verdict, jg_value *given
         unsettle_by_ending(it);
     }
     if (error < 0) {
-        if (record >= 0) {
+        if (record_is_open()) {
             put_text("# not asked: ");
             put_text(error == JG_IMPOSSIBLE ? "impossible\n" : "refused\n");
         }
         return counted(error);
     }
     counts.asked++;
-    if (record >= 0) {
+    if (record_is_open()) {
         record_question(it, verdict);
     }
     if (given != NULL && verdict->rule == JG_PASSED && core_needs_all()) {
@@ -418,11 +415,13 @@ int32_t core_ask(const struct question *it, jg_verdict *verdict, jg_value *given
 static int32_t tell_once(const jg_fact *fact, jg_value *given) {
     *given = jg_nothing();
     int32_t error = jg_tell(&core, fact, given);
-    core_facts++;
+    if (fact->word < JG_IS_LOCAL) {
+        core_facts++;
+    }
     unsettle(fact);
     if (error == 0) {
         note_fact(fact, given);
-    } else if (record >= 0) {
+    } else if (record_is_open()) {
         record_refused(fact, error);
     }
     return counted(error);
@@ -521,7 +520,7 @@ int32_t core_gone(const uint64_t *objects, size_t count, uint64_t *held) {
     }
     /* A line has room for so many. */
     enum { MOST = 2000 };
-    for (size_t at = 0; error == 0 && record >= 0 && at < count; at += MOST) {
+    for (size_t at = 0; error == 0 && record_is_open() && at < count; at += MOST) {
         uint8_t *line = line_of_library();
         size_t some = count - at < MOST ? count - at : MOST;
         put_line(line, jg_gone_line(&core, 0, objects + at, some, line, JG_LINE));
@@ -531,11 +530,36 @@ int32_t core_gone(const uint64_t *objects, size_t count, uint64_t *held) {
 }
 
 int core_is_recorded(void) {
-    return record >= 0;
+    return record_is_open();
 }
 
 int core_needs_all(void) {
-    return record >= 0 || is_advising;
+    return record_is_open() || is_advising;
+}
+
+int core_may_repeat(void) {
+    return !is_advising && (!record_is_open() || record_has_parts());
+}
+
+int core_repeats(const struct question *question, uint64_t facts) {
+    return !record_is_open() || repeats_question(question, facts);
+}
+
+void core_tell_length(uint32_t thread, uint64_t object, uint32_t length) {
+    int may_repeat = record_is_open() && core_may_repeat();
+    if (may_repeat && repeats_length(thread, object, length)) {
+        return;
+    }
+    core_lock();
+    int32_t error = core_tell(jg_fact_of(JG_IS_LENGTH, thread, jg_nothing(), jg_object(object), 0, length), NULL);
+    if (may_repeat && error == 0) {
+        repeats_note_length(object, length, core_facts);
+    }
+    core_unlock();
+}
+
+void core_end_record(void) {
+    record_end(repeats_part());
 }
 
 __attribute__((constructor)) static void hold_at_fork(void) {

@@ -74,14 +74,35 @@ void core_answer_text(uint32_t rule, char *text, size_t room);
 /* Counts one more. It needs no lock. */
 void core_count(uint64_t *count);
 
-/* How many facts were told so far, or may have been. As long as it stays, the core answers a question as before. */
+/*
+ * How many facts were told so far, or may have been. As long as it stays, the core answers a question as before. Those
+ * that only say what is so (JG_IS_LOCAL and so on) change nothing, and don't count.
+ */
 extern _Atomic uint64_t core_facts;
 
 /* Whether there is a record. */
 int core_is_recorded(void);
 
-/* Whether each question must be asked: there is a record, or advice is given. */
+/* Whether each question must be known: there is a record, or advice is given. */
 int core_needs_all(void);
+
+/* Whether a question that passed needn't be asked again, as long as no fact was told: core_repeats says whether. */
+int core_may_repeat(void);
+
+/* The question passed when so many facts had been told. Whether it passes again: a record has it then. */
+int core_repeats(const struct question *question, uint64_t facts);
+
+/* Tells how long the machine says that the object is. Not between core_lock and core_unlock. */
+void core_tell_length(uint32_t thread, uint64_t object, uint32_t length);
+
+/* Opens another core under the same setup, which only writes lines. 0, or an error. */
+int core_open_scribe(jg_core *scribe);
+
+/* What stands behind a question in the record: its answer and its place. How long that is, as snprintf says it. */
+int core_end_of_question(uint32_t rule, const struct site *site, char *text, size_t room);
+
+/* All is told: nothing stands behind the last line of the record. What other threads do yet is written all the same. */
+void core_end_record(void);
 
 /* The same when the core was opened: then nothing may be left out, or told later than it was. */
 extern int core_hears_all;

@@ -277,6 +277,7 @@ int report_end(void) {
         summary_free(&summary);
         free(leaks.items);
         sites_were_read();
+        core_end_record();
     }
     return blocks_denied() > 0 ? options.exit_code : -1;
 }

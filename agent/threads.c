@@ -15,6 +15,8 @@
 #include "objects.h"
 #include "options.h"
 #include "quarantine.h"
+#include "repeats.h"
+#include "stacks.h"
 
 #include <limits.h>
 #include <pthread.h>
@@ -114,9 +116,11 @@ static void let_go(void *which) {
         pthread_setspecific(ending, thread);
         return;
     }
+    repeats_forget(thread);
     if (thread->is_attached) {
         return;
     }
+    stacks_remove(thread);
     pthread_mutex_lock(&lock);
     *(thread->before ? &thread->before->next : &threads) = thread->next;
     if (thread->next != NULL) {
@@ -179,6 +183,7 @@ struct thread *threads_make(void) {
     struct thread *made = must_make(sizeof *made);
     pthread_once(&once, make_key);
     find_stack(made);
+    stacks_add(made);
     pthread_mutex_lock(&lock);
     made->next = threads;
     if (threads != NULL) {
@@ -319,14 +324,12 @@ const struct site *threads_take_unheard(struct thread *thread, uintptr_t handle,
         *number = thread->number;
         return take_unheard(thread, handle);
     }
-    pthread_mutex_lock(&lock);
-    for (struct thread *of = threads; of != NULL && site == NULL; of = of->next) {
-        if (threads_has_on_stack(of, handle)) {
-            *number = of->number;
-            site = take_unheard(of, handle);
-        }
+    struct thread *of = stacks_hold(handle);
+    if (of != NULL) {
+        *number = of->number;
+        site = take_unheard(of, handle);
     }
-    pthread_mutex_unlock(&lock);
+    stacks_let_go();
     return site;
 }
 

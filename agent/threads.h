@@ -12,6 +12,7 @@
 #include <stdatomic.h>
 
 struct call;
+struct writer;
 
 enum { RECENT_SITES = 64 };
 
@@ -146,6 +147,7 @@ struct thread {
     struct memo memos[MEMOS];
     struct unheard unheard[UNHEARD]; /* by their handles: the newest of each place */
     _Atomic uint64_t passed; /* questions that passed without the core being asked */
+    struct writer *writer;   /* of its lines in the record (repeats.c), or NULL */
 };
 
 /* The struct of this thread, or NULL where it has none. */

@@ -1,4 +1,4 @@
-/* aside.c: what quiet.c has done by a library that `libs=` doesn't name. */
+/* aside.c: what quiet.c and crowd.c have done by a library that `libs=` doesn't name. */
 #include <jni.h>
 
 #define E (*env)
@@ -26,4 +26,8 @@ void aside_pops(JNIEnv *env) {
 
 void aside_deletes(JNIEnv *env, jobject local) {
     E->DeleteLocalRef(env, local);
+}
+
+jobject aside_makes(JNIEnv *env, jobject object) {
+    return E->NewLocalRef(env, object);
 }
