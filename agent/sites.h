@@ -53,7 +53,7 @@ void sites_open(void);
 /* The place at this address, whose library isn't unloaded meanwhile. */
 const struct site *sites_at(uintptr_t at);
 
-/* Whether a library stands yet where that of the place stood, which was at this address. It may be unloaded any time. */
+/* Whether a library stands yet where that of the place stood, at this address. It may be unloaded at any time. */
 int sites_is_there(const struct site *site, uintptr_t at);
 
 /*
