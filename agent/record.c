@@ -210,6 +210,7 @@ static int take_part(struct part *part, uint64_t facts, size_t size) {
     if (is_good) {
         base[place + length] = '#';
         memset(base + place + 1, ' ', length - 2);
+        atomic_signal_fence(memory_order_seq_cst);
         base[place + length - 1] = '\n';
         *part = (struct part){facts, place, place + length, part->wanted};
         place += length;
