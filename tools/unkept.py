@@ -3,20 +3,20 @@
 A crate is proved as it stands where the last `rt ci` of this tree left its library in `out/`, and no source of it or of
 a crate below it is newer. What scripts keep by a key lies in the user's cache."""
 import functools
-import hashlib
 import os
 import shutil
+
+import sums
 
 TOP = os.path.dirname(os.path.dirname(os.path.realpath(__file__)))
 KIT = os.path.dirname(os.path.dirname(os.path.realpath(shutil.which("rt") or "rt")))
 CACHE = os.path.join(os.environ.get("XDG_CACHE_HOME") or os.path.expanduser("~/.cache"), "jg")
-PARTS = ("src", "specs", "proofs")
 
 
 @functools.lru_cache(maxsize=None)
 def changed(name):
     """When the newest source of this tree's crate was changed."""
-    folders = [f"{TOP}/crates/{name}/{part}" for part in PARTS]
+    folders = [f"{TOP}/crates/{name}/{part}" for part in sums.PARTS]
     return max(os.stat(f"{at}/{it}").st_mtime for top in folders for at, _, names in os.walk(top) for it in names)
 
 
@@ -70,17 +70,8 @@ class Kept:
 
 def stamp_of(crate, known):
     """A sum of the kit and of all files that the crate stands on. `known` has those that were found before."""
-    if crate.name not in known:
-        with open(f"{KIT}/KIT-ID", "rb") as it:
-            found = hashlib.sha256(it.read() + repr(crate.said).encode())
-        folders = [f"{crate.folder}/{part}" for part in PARTS]
-        for file in sorted(f"{at}/{it}" for top in folders for at, _, names in os.walk(top) for it in names):
-            with open(file, "rb") as it:
-                found.update(repr((file[len(crate.folder) :], it.read())).encode())
-        for dep in crate.deps:
-            found.update(stamp_of(dep, known).encode())
-        known[crate.name] = found.hexdigest()
-    return known[crate.name]
+    with open(f"{KIT}/KIT-ID", "rb") as it:
+        return sums.sum_of(crate, it.read(), known)
 
 
 def copy_crates(top, root):

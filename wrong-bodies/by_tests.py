@@ -68,16 +68,23 @@ def attempt(name):
     return by_case(*edit.case, texts) if edit.case else by_test(*edit.test, texts)
 
 
+def tried_by(file):
+    """The crate whose test or case must fail, "" where the edit in this file names none; and the file of that case, or
+    None."""
+    edit = edits.read(file)
+    if edit.case:
+        return os.path.basename(edits.CASES), f"{edits.CASES}/data/{edit.case[0]}"
+    return (edit.test[0] if edit.test else ""), None
+
+
 def name_kept(rt, crates, name):
     """The name under which it is kept that the edit failed its test, or None: a sum of all that the test stands on."""
-    edit, read = edits.read(f"{edits.BY_TESTS}/{name}.edit"), [__file__, f"{edits.BY_TESTS}/{name}.edit"]
-    if edit.case:
-        read.append(f"{edits.CASES}/data/{edit.case[0]}")
-    crate = crates.get(os.path.basename(edits.CASES) if edit.case else edit.test[0] if edit.test else "")
-    if crate is None:
+    file = f"{edits.BY_TESTS}/{name}.edit"
+    crate, cases = tried_by(file)
+    if crate not in crates:
         return None
     texts = []
-    for file in read:
-        with open(file, "rb") as it:
+    for path in [__file__, file, *([cases] if cases else [])]:
+        with open(path, "rb") as it:
             texts.append(it.read())
-    return hashlib.sha256(repr(("by-tests", rt.stamp_of(crate, {}), name, texts)).encode()).hexdigest()
+    return hashlib.sha256(repr(("by-tests", rt.stamp_of(crates[crate], {}), name, texts)).encode()).hexdigest()

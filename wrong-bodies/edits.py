@@ -14,7 +14,8 @@ import subprocess
 
 HERE = os.path.dirname(os.path.abspath(__file__))
 TOP = os.path.dirname(HERE)
-BY_TESTS = f"{HERE}/by-tests"
+OF_TESTS = "by-tests"
+BY_TESTS = f"{HERE}/{OF_TESTS}"
 CASES = f"{TOP}/crates/jg_test_cases"
 
 
@@ -40,6 +41,11 @@ def of_crates():
     """The edits of wrong-bodies/CRATE/, as CRATE/NAME."""
     crates = sorted(it for it in os.listdir(HERE) if it.startswith("jg_"))
     return [f"{crate}/{name}" for crate in crates for name in names(f"{HERE}/{crate}")]
+
+
+def every():
+    """All edits: those of crates, and those of by-tests/."""
+    return of_crates() + [f"{OF_TESTS}/{it}" for it in names(BY_TESTS)]
 
 
 def read(file):
