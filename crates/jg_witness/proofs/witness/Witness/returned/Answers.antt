@@ -10,7 +10,7 @@ returns-in-Ok-clause-ok g c =
     c.self.view_is
     (returned_stands c.self.inside.core c.make_room_unless_null.new.core c.returned.new.self c.put_given.new.core c.self.inside.names.entries
     c.make_room_unless_null.new.names.entries c.put_given.new.names.entries c.args.ticket c.args.says c.args.word c.in-Ok.given
-    c.in_ok-make_room_unless_null.ensures.core c.in_ok-make_room_unless_null.ensures.ok c.in-Ok.ensures.ok c.put_given.ensures)
+    c.in_ok-make_room_unless_null.ensures.core c.in_ok-make_room_unless_null.ensures.ok c.in-Ok.ensures.ok c.put_given.ensures.stands)
 
 pub invariant_of-self-in-Ok : goal.invariant_of-self-in-Ok
 invariant_of-self-in-Ok g c =
