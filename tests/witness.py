@@ -62,8 +62,8 @@ def answer_of(machine, fields):
 # ---- the library
 
 
-def struct(name, **fields):
-    return type(name, (ctypes.Structure,), {'_fields_': list(fields.items())})
+def struct(title, /, **fields):
+    return type(title, (ctypes.Structure,), {'_fields_': list(fields.items())})
 
 
 U32, U64 = ctypes.c_uint32, ctypes.c_uint64
@@ -259,7 +259,7 @@ class Differs(Exception):
 # names, `is_plain` whether each word means the name that the run asked by, `met` what was met since.
 Asked = collections.namedtuple('Asked', 'event question is_plain met')
 # How many words the machine has. Each is an address; those of one place and another thread differ in the high half.
-WORDS = [0x7F00_0000_0000 + (at % 2 << 32) + 8 * at for at in range(240)]
+WORDS = [0x7F00_0000_0000 + (at % 2 << 32) + 8 * at for at in range(120)]
 
 
 def text_of(name):
@@ -286,8 +286,9 @@ def run_class(base):
 
         def any_word(self):
             """A word to be handed out, mostly one that means nothing."""
-            words = self.random.sample(WORDS, 3)
-            return next((it for it in words if self.words.meaning(it) is None), words[0])
+            words = self.random.sample(WORDS, 6)
+            wanted = self.chance(0.1)
+            return next((it for it in words if (self.words.meaning(it) is not None) == wanted), words[0])
 
         def hand_out(self, word, name):
             self.counts['handed out'] += 1
@@ -376,12 +377,13 @@ def run_class(base):
             """The value that a reference is asked by, and the name that it then is: mostly its word, at times another
             word, and at times the name."""
             word = self.word_of.get(name) if name else 0
-            if word is not None and self.words.asked(t, word) == name and self.chance(0.9):
-                return (WORD, 0, word), name
-            if self.chance(0.3):
+            if word and self.words.meaning(word) != name:
+                word = None
+            if self.chance(0.1):
                 word = self.one(WORDS)
-                return (WORD, 0, word), self.words.asked(t, word)
-            return of_reference(name), name
+            if word is None or self.chance(0.1):
+                return of_reference(name), name
+            return (WORD, 0, word), self.words.asked(t, word)
 
         def question(self, fields):
             t, values = int(fields[0][1:]), []
