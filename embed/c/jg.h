@@ -514,9 +514,9 @@ JG_MUST_USE
 int32_t jg_witness_close(jg_witness *witness);
 
 /*
- * The machine handed the thread a reference to the object as this word; `kind` is JG_LOCAL, JG_GLOBAL or JG_WEAK. That
- * is told, and `name` gets the reference's name. What the word meant before has ended. 0; or JG_CLOSED, JG_BAD_THREAD,
- * JG_BAD_VALUE; or JG_IMPOSSIBLE, JG_FULL, JG_NO_MEMORY, and then the word means nothing.
+ * The machine handed the thread a reference to the object as this word, which isn't 0; `kind` is JG_LOCAL, JG_GLOBAL or
+ * JG_WEAK. That is told, and `name` gets the reference's name. What the word meant before has ended. 0; or JG_CLOSED,
+ * JG_BAD_THREAD, JG_BAD_VALUE; or JG_IMPOSSIBLE, JG_FULL, JG_NO_MEMORY, and then the word means nothing.
  */
 JG_MUST_USE
 int32_t jg_witness_hand(jg_witness *witness, uint64_t word, uint32_t thread, uint32_t kind, const jg_value *object,

@@ -32,11 +32,6 @@ use Rattle.jg_c.specs.Telling.{CanSay, objects_of}
 use Rattle.jg_c.specs.Values.{kind_of, object_of, of_reference, thread_of}
 use Rattle.jg_c.specs.Witnesses.{WitnessHeld, core_in}
 
--- it judges by what it judged by
-pub record JudgesAsBefore (old new : WitnessHeld) : Type 0 where
-  pub bounds : new.bounds ≡ old.bounds
-  pub setup : new.witness.core.setup ≡ old.witness.core.setup
-
 -- nothing was handed out and the word means nothing from now on: for want of memory, or so it is
 pub record IsRefused (old new : WitnessHeld) (word : ℕ) (Is : Untold → Type 0) (n : ℤ) : Type 0 where
   pub lapsed : Takes old.witness new.witness (Lapsed word)

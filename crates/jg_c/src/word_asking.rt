@@ -7,7 +7,7 @@ ghost use Rattle.jg_c.specs.Questions.{word_question_of};
 ghost use Rattle.jg_c.specs.Sessions.{Of, Steps, witness_of};
 ghost use Rattle.jg_c.specs.Tickets.{is_told};
 ghost use Rattle.jg_c.specs.WordQuestions.{AsksOfWords, EndsOfWords, EndsOfWordsBy};
-ghost use Rattle.jg_c.specs.WordTelling.{JudgesAsBefore};
+ghost use Rattle.jg_c.specs.Witnesses.{JudgesAsBefore};
 
 use crate::asking::write_ended;
 use crate::error::of_untold;

@@ -9,6 +9,7 @@ ghost use Rattle.jg_c.specs.Given as givens;
 ghost use Rattle.jg_c.specs.Sessions.{Of, Steps, witness_of};
 ghost use Rattle.jg_c.specs.Tickets as tickets;
 ghost use Rattle.jg_c.specs.Values as values;
+ghost use Rattle.jg_c.specs.Witnesses.{JudgesAsBefore};
 ghost use Rattle.jg_c.specs.WordTelling as specs;
 
 use crate::error::{DONE, of_untold};
@@ -61,7 +62,7 @@ fn hand_out(asked: &mut WitnessSession, word: u64, hands: Hands, name: &mut JgVa
     ensures hands { specs.HandsWord asked.old asked.new word (Ok hands) name.new result }
     ensures kept { result ≢ errors.done → name.new ≡ name.old }
     ensures numbers { result ≢ errors.closed }
-    ensures settings { specs.JudgesAsBefore asked.old asked.new }
+    ensures settings { JudgesAsBefore asked.old asked.new }
 {
     match asked
         .witness
@@ -86,7 +87,7 @@ fn hand(
     ensures hands { specs.HandsWord asked.old asked.new word (specs.hands_of thread kind object.now) name.new result }
     ensures kept { result ≢ errors.done → name.new ≡ name.old }
     ensures numbers { result ≢ errors.closed }
-    ensures settings { specs.JudgesAsBefore asked.old asked.new }
+    ensures settings { JudgesAsBefore asked.old asked.new }
 {
     match hands_of(thread, kind, object) {
         Ok(hands) => hand_out(asked, word, hands, name),
@@ -109,7 +110,7 @@ pub extern "C" fn jg_witness_hand(
     ensures hands { Steps (witness_of witness.old.value) (witness_of witness.new.value)
         (λ old new. specs.HandsWord old new word (specs.hands_of thread kind object.now) name.new result) }
     ensures kept { result ≢ errors.done → name.new ≡ name.old }
-    ensures settings { Steps (witness_of witness.old.value) (witness_of witness.new.value) specs.JudgesAsBefore }
+    ensures settings { Steps (witness_of witness.old.value) (witness_of witness.new.value) JudgesAsBefore }
     ensures same { witness_of witness.old.value ≡ None → witness.new.value ≡ witness.old.value }
 {
     match witness.witness() {
@@ -121,7 +122,7 @@ pub extern "C" fn jg_witness_hand(
 fn hand_for(asked: &mut WitnessSession, word: u64, name: Ref) -> i32
     ensures hands { specs.HandsFor asked.old asked.new word (Some name) result }
     ensures numbers { result ≢ errors.closed }
-    ensures settings { specs.JudgesAsBefore asked.old asked.new }
+    ensures settings { JudgesAsBefore asked.old asked.new }
 {
     match asked.witness.handed(word, name) {
         Ok(()) => DONE,
@@ -132,7 +133,7 @@ fn hand_for(asked: &mut WitnessSession, word: u64, name: Ref) -> i32
 fn handed(asked: &mut WitnessSession, word: u64, name: &JgValue) -> i32
     ensures hands { specs.HandsFor asked.old asked.new word (values.reference_of name.now) result }
     ensures numbers { result ≢ errors.closed }
-    ensures settings { specs.JudgesAsBefore asked.old asked.new }
+    ensures settings { JudgesAsBefore asked.old asked.new }
 {
     match name.reference() {
         Some(name) => hand_for(asked, word, name),
@@ -147,7 +148,7 @@ pub extern "C" fn jg_witness_handed(witness: &mut Handle, word: u64, name: &JgVa
     ensures closed { (result ≡ errors.closed) ↔ (witness_of witness.old.value ≡ None) }
     ensures hands { Steps (witness_of witness.old.value) (witness_of witness.new.value)
         (λ old new. specs.HandsFor old new word (values.reference_of name.now) result) }
-    ensures settings { Steps (witness_of witness.old.value) (witness_of witness.new.value) specs.JudgesAsBefore }
+    ensures settings { Steps (witness_of witness.old.value) (witness_of witness.new.value) JudgesAsBefore }
     ensures same { witness_of witness.old.value ≡ None → witness.new.value ≡ witness.old.value }
 {
     match witness.witness() {
@@ -160,7 +161,7 @@ pub extern "C" fn jg_witness_handed(witness: &mut Handle, word: u64, name: &JgVa
 fn lapse(asked: &mut WitnessSession, word: u64) -> i32
     ensures done { result ≡ errors.done }
     ensures takes { Takes asked.old.witness asked.new.witness (Lapsed word) }
-    ensures settings { specs.JudgesAsBefore asked.old asked.new }
+    ensures settings { JudgesAsBefore asked.old asked.new }
 {
     asked.witness.lapsed(word);
     DONE
@@ -173,7 +174,7 @@ pub extern "C" fn jg_witness_lapsed(witness: &mut Handle, word: u64) -> i32
     ensures done { (result ≡ errors.done) ↔ (witness_of witness.old.value ≢ None) }
     ensures takes { Steps (witness_of witness.old.value) (witness_of witness.new.value)
         (λ old new. Takes old.witness new.witness (Lapsed word)) }
-    ensures settings { Steps (witness_of witness.old.value) (witness_of witness.new.value) specs.JudgesAsBefore }
+    ensures settings { Steps (witness_of witness.old.value) (witness_of witness.new.value) JudgesAsBefore }
     ensures same { witness_of witness.old.value ≡ None → witness.new.value ≡ witness.old.value }
 {
     match witness.witness() {
@@ -188,7 +189,7 @@ fn tell_fact(asked: &mut WitnessSession, fact: Fact, given: &mut JgValue) -> i32
     ensures tells { specs.TellsFactOf asked.old asked.new fact given.new result }
     ensures kept { result ≢ errors.done → given.new ≡ given.old }
     ensures numbers { result ≢ errors.closed }
-    ensures settings { specs.JudgesAsBefore asked.old asked.new }
+    ensures settings { JudgesAsBefore asked.old asked.new }
 {
     match asked.witness.tell(fact) {
         Ok(out) => {
@@ -203,7 +204,7 @@ fn tell(asked: &mut WitnessSession, fact: &JgFact, given: &mut JgValue) -> i32
     ensures tells { specs.TellsOf asked.old asked.new (facts.fact_of fact.now) given.new result }
     ensures kept { result ≢ errors.done → given.new ≡ given.old }
     ensures numbers { result ≢ errors.closed }
-    ensures settings { specs.JudgesAsBefore asked.old asked.new }
+    ensures settings { JudgesAsBefore asked.old asked.new }
 {
     match fact_of(fact) {
         Some(fact) => tell_fact(asked, fact, given),
@@ -219,7 +220,7 @@ pub extern "C" fn jg_witness_tell(witness: &mut Handle, fact: &JgFact, given: &m
     ensures tells { Steps (witness_of witness.old.value) (witness_of witness.new.value)
         (λ old new. specs.TellsOf old new (facts.fact_of fact.now) given.new result) }
     ensures kept { result ≢ errors.done → given.new ≡ given.old }
-    ensures settings { Steps (witness_of witness.old.value) (witness_of witness.new.value) specs.JudgesAsBefore }
+    ensures settings { Steps (witness_of witness.old.value) (witness_of witness.new.value) JudgesAsBefore }
     ensures same { witness_of witness.old.value ≡ None → witness.new.value ≡ witness.old.value }
 {
     match witness.witness() {
@@ -240,7 +241,7 @@ fn take_return(
     ensures returns { specs.ReturnsWord asked.old asked.new ticket says word given.new result }
     ensures kept { result ≢ errors.done → given.new ≡ given.old }
     ensures numbers { result ≢ errors.closed }
-    ensures settings { specs.JudgesAsBefore asked.old asked.new }
+    ensures settings { JudgesAsBefore asked.old asked.new }
 {
     if !can_say(asked.witness.core(), says) {
         asked.witness.lapsed(word);
@@ -269,7 +270,7 @@ fn take_told(
     ensures untold { result ≢ errors.done → ticket.new ≡ ticket.old }
     ensures kept { result ≢ errors.done → given.new ≡ given.old }
     ensures numbers { result ≢ errors.closed }
-    ensures settings { specs.JudgesAsBefore asked.old asked.new }
+    ensures settings { JudgesAsBefore asked.old asked.new }
 {
     let number = take_return(asked, stated, says, word, given);
     if number == DONE {
@@ -291,7 +292,7 @@ fn did(
     ensures untold { result ≢ errors.done → ticket.new ≡ ticket.old }
     ensures kept { result ≢ errors.done → given.new ≡ given.old }
     ensures numbers { result ≢ errors.closed }
-    ensures settings { specs.JudgesAsBefore asked.old asked.new }
+    ensures settings { JudgesAsBefore asked.old asked.new }
 {
     match untold_ticket_of(ticket) {
         Some(stated) => match says_of(says) {
@@ -319,7 +320,7 @@ pub extern "C" fn jg_witness_did(
     ensures told { result ≡ errors.done → tickets.IsMarked ticket.old ticket.new }
     ensures untold { result ≢ errors.done → ticket.new ≡ ticket.old }
     ensures kept { result ≢ errors.done → given.new ≡ given.old }
-    ensures settings { Steps (witness_of witness.old.value) (witness_of witness.new.value) specs.JudgesAsBefore }
+    ensures settings { Steps (witness_of witness.old.value) (witness_of witness.new.value) JudgesAsBefore }
     ensures same { witness_of witness.old.value ≡ None → witness.new.value ≡ witness.old.value }
 {
     match witness.witness() {
@@ -335,7 +336,7 @@ fn let_go(asked: &mut WitnessSession, objects: &[u64], held: &mut JgHeld) -> i32
     ensures kept { result ≢ errors.impossible → held.new ≡ held.old }
     ensures numbers { result ≢ errors.closed }
     ensures unchanged { result ≡ errors.no_memory → asked.new ≡ asked.old }
-    ensures settings { specs.JudgesAsBefore asked.old asked.new }
+    ensures settings { JudgesAsBefore asked.old asked.new }
 {
     let Ok(()) = read_objects(objects, &mut asked.objects) else {
         return NO_MEMORY;
@@ -355,7 +356,7 @@ pub extern "C" fn jg_witness_gone(witness: &mut Handle, objects: &[u64], held: &
         (λ old new. specs.LetsGoOf old new objects.now held.new result) }
     ensures kept { result ≢ errors.impossible → held.new ≡ held.old }
     ensures unchanged { result ≡ errors.no_memory → witness.new.value ≡ witness.old.value }
-    ensures settings { Steps (witness_of witness.old.value) (witness_of witness.new.value) specs.JudgesAsBefore }
+    ensures settings { Steps (witness_of witness.old.value) (witness_of witness.new.value) JudgesAsBefore }
     ensures same { witness_of witness.old.value ≡ None → witness.new.value ≡ witness.old.value }
 {
     match witness.witness() {
