@@ -75,6 +75,9 @@ Bounds = struct('Bounds', capacity=ctypes.c_int32, length=ctypes.c_int32, items=
 Held = struct('Held', place=U64, by=U32, thread=U32, name=Value)
 Handle = struct('Handle', at=ctypes.c_void_p)
 
+# The setup where none is handed in, and the number of each function.
+SETUP = 'version = 1\nillegal_native_access = "deny"\n'
+PLACES = {name: place for place, name in enumerate(FUNCTIONS)}
 VERSION, DONE, REFUSED = 1, 0, -10
 NO_VALUE, NULL, WORD = (0, 0, 0), (1, 0, 0), 17
 KINDS = {'L': 2, 'G': 3, 'W': 4}
@@ -158,6 +161,16 @@ def spelt(value):
     return f'O{value.number}' if value.kind == 7 else f'{LETTERS[value.kind]}{value.detail}.{value.number}'
 
 
+class Differs(Exception):
+    """What differs, in a line."""
+
+
+def must(answer):
+    if answer < 0:
+        raise Differs(f'the library answers {answer}')
+    return answer
+
+
 class Witness:
     """A witness of the library, by the words of a record. Each call answers the number, and what was written."""
 
@@ -239,27 +252,13 @@ class Witness:
         return spelt(name) if must(answer) else None
 
 
-SETUP = 'version = 1\nillegal_native_access = "deny"\n'
-PLACES = {name: place for place, name in enumerate(FUNCTIONS)}
-
-
-def must(answer):
-    if answer < 0:
-        raise Differs(f'the library answers {answer}')
-    return answer
-
-
-class Differs(Exception):
-    """What differs, in a line."""
-
-
 # ---- a run at random
 
 # A question that passed, and wasn't asked of the library yet: it waits for what comes of it. `event` is its line by
 # names, `is_plain` whether each word means the name that the run asked by, `met` what was met since.
 Asked = collections.namedtuple('Asked', 'event question is_plain met')
-# How many words the machine has. Each is an address; those of one place and another thread differ in the high half.
-WORDS = [0x7F00_0000_0000 + (at % 2 << 32) + 8 * at for at in range(120)]
+# The words that the machine has. Of each two the low halves are the same.
+WORDS = [0x7F00_0000_0000 + (at % 2 << 32) + 8 * (at // 2) for at in range(120)]
 
 
 def text_of(name):
