@@ -18,7 +18,8 @@
 
 #include <stdlib.h>
 
-enum { FEWEST_BITS = 6, MOST_BITS = 11, CLAIM_BITS = 16 };
+/* A step among the places of a table is odd, so that it comes to each of them. */
+enum { FEWEST_BITS = 6, MOST_BITS = 11, CLAIM_BITS = 16, STEP = 9 };
 
 static struct thread *_Atomic claims[1 << CLAIM_BITS];
 
@@ -36,15 +37,19 @@ static inline struct thread *_Atomic *claim_of(uintptr_t handle) {
 
 /* ---- the table ---- */
 
-/* The place of the handle, or the empty one where it would stand. There are places. */
+/*
+ * The place of the handle, or the empty one where it would stand. There are places. The machine hands out slot after
+ * slot: eight that stand in 64 bytes have places beside each other, and those of others elsewhere.
+ */
 static inline struct young *place_of(const struct nursery *in, uintptr_t handle) {
-    size_t at = (uint64_t)handle * 0x9E3779B97F4A7C15u >> (64 - in->bits), last = ((size_t)1 << in->bits) - 1;
+    size_t eight = (uint64_t)(handle >> 6) * 0x9E3779B97F4A7C15u >> (64 - in->bits) & ~(size_t)7;
+    size_t at = eight | (handle >> 3 & 7), last = ((size_t)1 << in->bits) - 1;
     for (;;) {
         uintptr_t there = atomic_load_explicit(&in->places[at].handle, memory_order_relaxed);
         if (there == handle || there == 0) {
             return &in->places[at];
         }
-        at = (at + 1) & last;
+        at = (at + STEP) & last;
     }
 }
 
