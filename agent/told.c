@@ -256,7 +256,7 @@ static void gather_native(struct told *told, const struct call *call) {
     const struct site *stack[MOST_NATIVE];
     struct source sources[2 * MOST_NATIVE];
     size_t count = sites_stack(call->thread, call->site, call->frame, stack, MOST_NATIVE);
-    size_t found = sites_sources(stack, count, sources, 2 * MOST_NATIVE);
+    size_t found = sites_sources(stack, count, AT_ONCE, sources, 2 * MOST_NATIVE);
     for (size_t at = 0; at < count; at++) {
         size_t before = told->native_count;
         for (size_t some = 0; some < found; some++) {
