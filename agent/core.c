@@ -291,6 +291,7 @@ void core_unlock(void) {
     const struct endings ended = untold;
     untold = (struct endings){0, 0};
     pthread_mutex_unlock(&lock);
+    record_tend();
     tell_endings(ended);
     for (size_t at = 0; at < count; at++) {
         report_advice(&advice[at]);
