@@ -71,7 +71,7 @@ static inline void set_state(struct young *it, enum young_state state) {
 static inline void ends(struct nursery *in, struct young *it, enum young_state state, uint32_t by,
                         const struct site *site) {
     atomic_store_explicit(&it->ended, site, memory_order_relaxed);
-    it->ended_by = (uint16_t)by;
+    atomic_store_explicit(&it->ended_by, (uint16_t)by, memory_order_relaxed);
     set_state(it, state);
     in->live--;
     if (in->live == 0) {
@@ -201,6 +201,16 @@ void nursery_tell(struct thread *thread) {
 
 /* ---- other threads ---- */
 
+/* What other threads may read of it, while its own goes on. */
+static struct young seen_of(const struct young *it) {
+    return (struct young){.handle = it->handle,
+                          .made = it->made,
+                          .ended = it->ended,
+                          .made_by = it->made_by,
+                          .ended_by = it->ended_by,
+                          .state = it->state};
+}
+
 /* What another thread knows of the handle: the number of that thread, or 0. It isn't found again. */
 static uint32_t take_other(const struct thread *thread, uintptr_t handle, struct young *found) {
     uint32_t number = 0;
@@ -209,7 +219,7 @@ static uint32_t take_other(const struct thread *thread, uintptr_t handle, struct
     struct young *it = of != NULL && of != thread ? young_of(&of->nursery, handle) : NULL;
     if (it != NULL && state_of(it) != YOUNG_NOT && state_of(it) != YOUNG_NAMED_HELD && !it->is_told) {
         it->is_told = 1;
-        *found = *it;
+        *found = seen_of(it);
         number = of->number;
     }
     threads_unlock();
@@ -400,7 +410,7 @@ static inline int make(struct thread *thread, jobject handle, uint32_t function,
     in->made[in->made_count++] = address_of(handle);
     atomic_store_explicit(&it->made, site, memory_order_relaxed);
     atomic_store_explicit(&it->is_told, 0, memory_order_relaxed);
-    it->made_by = (uint16_t)function;
+    atomic_store_explicit(&it->made_by, (uint16_t)function, memory_order_relaxed);
     it->bytes = bytes;
     set_state(it, YOUNG_LIVE);
     return 1;
