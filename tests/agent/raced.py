@@ -5,7 +5,8 @@ import subprocess
 HERE = os.path.dirname(os.path.realpath(__file__))
 AGENT = f'{os.path.dirname(os.path.dirname(HERE))}/agent'
 # HotSpot's own code and the JDK's have no sanitizer: what they call isn't looked at. Neither is how they read one file.
-SUPPRESSIONS = 'called_from_lib:libjvm.so\nrace:libjimage.so\nrace:libjvm.so\n'
+# Native code of Late stores into memory that it gave back, which is its fault.
+SUPPRESSIONS = 'called_from_lib:libjvm.so\nrace:libjimage.so\nrace:libjvm.so\nrace:liblate.so\n'
 # HotSpot handles its own faults. It also takes locks in ways that the sanitizer's search for deadlocks can't follow.
 OPTIONS = 'detect_deadlocks=0 handle_segv=0 handle_sigbus=0 handle_sigfpe=0 handle_abort=0 report_signal_unsafe=0 ' \
           'exitcode=0 history_size=7'
