@@ -219,7 +219,8 @@ static int put(struct part *part, const char *lines, size_t size) {
 }
 
 int record_put(struct part *part, const char *lines, size_t size) {
-    if (file < 0 || agent_is_forked()) {
+    /* What is in memory a child of vfork writes as its parent would, with the facts that it tells the parent's core. */
+    if (file < 0 || (is_mapped ? agent_is_copied() : agent_is_forked())) {
         return 0;
     }
     int kept = errno;

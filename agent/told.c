@@ -124,6 +124,7 @@ static char *text_of(int64_t (*say)(uint32_t, uint8_t *, size_t), uint32_t numbe
 /* ---- operands ---- */
 
 static void name_text(jg_value name, char *text, size_t room) {
+    char spelt[CORE_NAME_ROOM];
     if (name.kind == JG_NULL) {
         snprintf(text, room, "NULL");
     } else if (name.kind < JG_LOCAL || name.kind > JG_BUFFER) {
@@ -131,7 +132,8 @@ static void name_text(jg_value name, char *text, size_t room) {
     } else if (name.number == UINT64_MAX) {
         snprintf(text, room, "a handle that this thread wasn't given");
     } else {
-        core_name_text(name, text, room);
+        core_name_text(name, spelt);
+        snprintf(text, room, "%s", spelt);
     }
 }
 
