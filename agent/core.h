@@ -68,7 +68,8 @@ int32_t core_tell_of(jg_fact fact, struct object *object, jg_value *given);
 int32_t core_gone(const uint64_t *objects, size_t count, uint64_t *held);
 
 /* As a record has them: a name, such as `L1.2` or `O15`; and an answer, `passed` or `deny 6 DeadReference`. */
-void core_name_text(jg_value name, char *text, size_t room);
+enum { CORE_NAME_ROOM = 40 };
+void core_name_text(jg_value name, char *text);
 void core_answer_text(uint32_t rule, char *text, size_t room);
 
 /* Counts one more. It needs no lock. */
@@ -98,7 +99,7 @@ void core_tell_length(uint32_t thread, uint64_t object, uint32_t length);
 /* Opens another core under the same setup, which only writes lines. 0, or an error. */
 int core_open_scribe(jg_core *scribe);
 
-/* What stands behind a question in the record: its answer and its place. How long that is, as snprintf says it. */
+/* What stands behind a question in the record: its answer and its place. How long that is; it is cut as by snprintf. */
 int core_end_of_question(uint32_t rule, const struct site *site, char *text, size_t room);
 
 /* All is told: nothing stands behind the last line of the record. What other threads do yet is written all the same. */

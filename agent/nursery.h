@@ -32,12 +32,12 @@ struct young {
     _Atomic uintptr_t handle; /* 0: an empty place */
     const struct site *_Atomic made;
     const struct site *_Atomic ended;
-    uint32_t bytes;   /* of its object, or UNKNOWN_BYTES */
-    uint16_t made_by; /* functions, by their numbers */
+    uint32_t bytes;           /* of its object, or UNKNOWN_BYTES: its own thread's alone */
+    _Atomic uint16_t made_by; /* functions, by their numbers */
     _Atomic uint8_t state;
     _Atomic uint8_t is_told; /* another thread had it told */
-    uint16_t ended_by;
-    uint64_t number; /* of one that has a name: the core's */
+    _Atomic uint16_t ended_by;
+    uint64_t number; /* of one that has a name: the core's. Its own thread's alone */
 };
 
 enum { MOST_LIVE = 256 };

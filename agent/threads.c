@@ -105,6 +105,13 @@ static void forget_envs(const struct thread *thread) {
 
 static void forget_held(struct thread *thread);
 
+/* The last round of the destructors of keys. That sanitizer, which knows nothing of the thread then, has one less. */
+#ifdef __SANITIZE_THREAD__
+enum { LAST_ROUND = PTHREAD_DESTRUCTOR_ITERATIONS - 1 };
+#else
+enum { LAST_ROUND = PTHREAD_DESTRUCTOR_ITERATIONS };
+#endif
+
 /*
  * The thread ends in the system. A library's key may have a destructor that makes calls and detaches the thread, so the
  * agent's waits for the last round. Where the thread is attached even then the machine keeps what it has of it; and so
@@ -112,7 +119,7 @@ static void forget_held(struct thread *thread);
  */
 static void let_go(void *which) {
     struct thread *thread = which;
-    if (++thread->endings < PTHREAD_DESTRUCTOR_ITERATIONS) {
+    if (++thread->endings < LAST_ROUND) {
         pthread_setspecific(ending, thread);
         return;
     }
