@@ -431,7 +431,7 @@ static const struct site *find_or_add(uintptr_t at, const struct looked_up *it, 
         is_known = 1;
     }
     struct site *found = is_known ? place->site : NULL;
-    if (found != NULL && is_return) {
+    if (found != NULL && is_return && !found->is_return) {
         found->is_return = 1;
     }
     pthread_mutex_unlock(&lock);

@@ -36,7 +36,7 @@ struct site {
     int is_wrapper;   /* it stands in a function that only passes calls on */
     int is_in_table;  /* its library has functions in the table that are called before the agent's */
     int is_own;       /* it stands in the agent: the library's code ended by a jump */
-    int is_return;    /* a call returns there, and stands before it */
+    _Atomic int is_return; /* a call returns there, and stands before it: it is written where that is seen */
     int is_marked;    /* of sites.c alone */
     struct step step; /* of a wrapper: where its caller is */
 };
