@@ -113,7 +113,7 @@ struct lease {
 
 struct thread {
     struct thread *next, *before; /* in the list of all */
-    uint32_t number;              /* 0: it has none now */
+    _Atomic uint32_t number;      /* 0: it has none now. Other threads read it */
     int is_attached;              /* a session of it was told */
     jg_value env_name;
     JNIEnv *env;
