@@ -23,6 +23,16 @@
 #include <stdlib.h>
 #include <string.h>
 
+/*
+ * In which round of a thread's destructors its struct is let go: the last. The thread sanitizer lets the thread go in the
+ * last one, after which nothing that it watches may run.
+ */
+#ifdef __SANITIZE_THREAD__
+enum { ROUNDS = PTHREAD_DESTRUCTOR_ITERATIONS - 1 };
+#else
+enum { ROUNDS = PTHREAD_DESTRUCTOR_ITERATIONS };
+#endif
+
 enum { MOST_THREADS = 65535, ROOM_BESIDE_HELD = 1024, HELD_BY_ROOM = 512 };
 
 static pthread_mutex_t lock = PTHREAD_MUTEX_INITIALIZER;
@@ -112,7 +122,7 @@ static void forget_held(struct thread *thread);
  */
 static void let_go(void *which) {
     struct thread *thread = which;
-    if (++thread->endings < PTHREAD_DESTRUCTOR_ITERATIONS) {
+    if (++thread->endings < ROUNDS) {
         pthread_setspecific(ending, thread);
         return;
     }
