@@ -432,7 +432,8 @@ static struct object *receiver_of(struct native *native, JNIEnv *env, jobject ha
     }
     struct object *class = native->class;
     if (class == NULL) {
-        class = native->class = objects_of(env, handle);
+        class = objects_of(env, handle);
+        native->class = class;
     }
     return class;
 }
