@@ -54,6 +54,21 @@ public class Races {
         }
     }
 
+    /** A thread that was started: a virtual one if that is wanted, and if the machine has such. */
+    static Thread started(Runnable work, boolean isVirtual) throws ReflectiveOperationException {
+        if (isVirtual && Runtime.version().feature() >= 21) {
+            return (Thread) Thread.class.getMethod("startVirtualThread", Runnable.class).invoke(null, work);
+        }
+        Thread thread = new Thread(work);
+        thread.start();
+        return thread;
+    }
+
+    /** A library comes and goes, one at a time: each registers a native method of one class. */
+    static synchronized void useLibrary(int turn) throws Exception {
+        Comes.useLibrary(System.getProperty("java.library.path") + "/libcoming.so", turn);
+    }
+
     /** What Java does of itself; all else is native. */
     static void work(String name, int kind, int seed) throws Exception {
         switch (name) {
@@ -65,10 +80,10 @@ public class Races {
                 Thread.sleep(2);
             }
             case "begins" -> {
-                Thread thread = new Thread(() -> works(kind, seed, "text"));
-                thread.start();
+                Thread thread = started(() -> works(kind, seed, "text"), seed % 2 == 0);
                 thread.join();
             }
+            case "libraries" -> useLibrary(seed);
             default -> works(kind, seed, new Races());
         }
     }
@@ -95,7 +110,7 @@ public class Races {
         return wanted.isEmpty() ? !name.equals("twice") : wanted.contains(name);
     }
 
-    /** Words: how many milliseconds; `ends`, where the program ends while its threads run, or `joins`; kinds of work. */
+    /** Words: how many milliseconds; `ends`, where it ends while threads run, or `joins`; the kinds of work. */
     public static void main(String[] words) throws Exception {
         System.loadLibrary("races");
         System.loadLibrary("comes");

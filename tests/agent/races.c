@@ -236,7 +236,7 @@ static void attaches(JNIEnv *env, unsigned seed, jobject own) {
     struct attached given[3];
     (void)env, (void)own;
     for (unsigned at = 0; at < 3; at++) {
-        given[at] = (struct attached){seed + at, 1};
+        given[at] = (struct attached){seed + at, (seed + at) % 16 != 0};
         pthread_create(&threads[at], NULL, attached, &given[at]);
     }
     for (unsigned at = 0; at < 3; at++) {
@@ -288,7 +288,7 @@ static const struct {
     {"locals", makes_locals}, {"frames", pushes}, {"globals", makes_globals}, {"weak", makes_weak}, {"meets", meets},
     {"repeats", repeats}, {"criticals", criticals}, {"lends", lends}, {"hands_on", hands_on}, {"throws", throws},
     {"owns", owns}, {"attaches", attaches}, {"ids", asks_ids}, {"faults", faults}, {"quiet", none}, {"renews", none},
-    {"classes", none}, {"begins", none}, {"collects", none}, {"twice", deletes_twice},
+    {"classes", none}, {"libraries", none}, {"begins", none}, {"collects", none}, {"twice", deletes_twice},
 };
 
 JNIEXPORT jstring JNICALL Java_Races_described(JNIEnv *env, jclass class, jint kind) {
