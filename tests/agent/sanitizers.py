@@ -4,11 +4,12 @@ import subprocess
 
 # Signals are HotSpot's: it takes SIGSEGV for its safepoints. What a file descriptor orders is nothing to go by.
 THREAD = ('handle_segv=0 handle_sigbus=0 handle_sigfpe=0 handle_sigill=0 handle_abort=0 report_signal_unsafe=0 '
-          'report_thread_leaks=0 die_after_fork=0 io_sync=0 history_size=4 hard_rss_limit_mb=5000 '
+          'report_thread_leaks=0 die_after_fork=0 io_sync=0 history_size=7 hard_rss_limit_mb=5000 '
           'second_deadlock_stack=1 atexit_sleep_ms=50 exitcode=0')
 # What these libraries have the C library do, as to copy memory, isn't looked at: what orders it isn't seen.
 UNWATCHED = ['libjvm.so', 'libjli.so', 'libjava.so', 'libjimage.so', 'libzip.so', 'libnio.so', 'libnet.so',
-             'libmanagement.so', 'libmanagement_ext.so', 'libinstrument.so', 'libverify.so']
+             'libmanagement.so', 'libmanagement_ext.so', 'libinstrument.so', 'libverify.so', 'libc.so.6',
+             'ld-linux-x86-64.so.2']
 OPTIONS = {
     'address': {'UBSAN_OPTIONS': 'print_stacktrace=1',
                 'ASAN_OPTIONS': 'handle_segv=0:handle_sigbus=0:handle_sigfpe=0:handle_abort=0:detect_leaks=0'},
