@@ -25,6 +25,12 @@ def library(name):
                           check=True).stdout.strip()
 
 
-def environment(kind):
-    """That of this process, and what the sanitizer wants."""
-    return dict(os.environ, LD_PRELOAD=':'.join(map(library, LIBRARIES[kind])), **OPTIONS[kind])
+def environment(kind, folder, suppressed=()):
+    """That of this process, and what the sanitizer wants. It reads in the folder what it isn't to tell."""
+    found = dict(os.environ, LD_PRELOAD=':'.join(map(library, LIBRARIES[kind])), **OPTIONS[kind])
+    if kind == 'thread':
+        with open(f'{folder}/suppressed', 'w', encoding='utf-8') as file:
+            for line in [*suppressed, *(f'called_from_lib:{it}' for it in UNWATCHED)]:
+                file.write(f'{line}\n')
+        found['TSAN_OPTIONS'] += f' suppressions={folder}/suppressed'
+    return found
