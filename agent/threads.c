@@ -24,8 +24,8 @@
 #include <string.h>
 
 /*
- * In which round of a thread's destructors its struct is let go: the last. The thread sanitizer lets the thread go in the
- * last one, after which nothing that it watches may run.
+ * In which round of a thread's destructors its struct is let go: the last. In that one the thread sanitizer lets the
+ * thread go, and after that nothing may run in it that is watched.
  */
 #ifdef __SANITIZE_THREAD__
 enum { ROUNDS = PTHREAD_DESTRUCTOR_ITERATIONS - 1 };

@@ -74,10 +74,13 @@ struct waiting {
     uint32_t count;
 };
 
-/* The judged call that left an exception pending last: of this object, or of this class. It is only compared. */
+/*
+ * The judged call that left an exception pending last: of this object, or of this class. It is only compared. Other
+ * threads read the place.
+ */
 struct thrower {
     const struct object *of;
-    const struct site *site;
+    const struct site *_Atomic site;
     uint32_t function;
 };
 
