@@ -32,7 +32,7 @@ struct object {
     uint32_t class_number;
     uint32_t length;
     _Atomic uint32_t holds; /* by the machine, and by each name that refers to it */
-    _Atomic uint32_t owner; /* the thread that owns its monitor, as the core was told, and how often: written by it */
+    _Atomic uint32_t owner; /* the thread that owns its monitor, as the core was told, and how often. Others read it */
     _Atomic uint32_t owned;
     int is_entered;             /* it stands in the list of monitors that judged code entered */
     const struct site *entered; /* where that was last */
