@@ -597,7 +597,10 @@ static struct lent *join(const struct call *call, void *memory, const struct pai
         it = it->critical;
     }
     if (it != NULL) {
-        it->memory = memory;
+        /* Else it is there already, and may be read without the lock: the first pair fills the copy. */
+        if (it->memory == NULL) {
+            it->memory = memory;
+        }
         add_pair(it, pair);
     }
     return it;

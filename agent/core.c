@@ -18,6 +18,7 @@
 #include <errno.h>
 #include <fcntl.h>
 #include <pthread.h>
+#include <stdatomic.h>
 #include <stdio.h>
 #include <stdlib.h>
 #include <string.h>
@@ -330,8 +331,8 @@ void core_unlock(void) {
     }
 }
 
-void core_count(uint64_t *count) {
-    __atomic_fetch_add(count, 1, __ATOMIC_RELAXED);
+void core_count(_Atomic uint64_t *count) {
+    atomic_fetch_add_explicit(count, 1, memory_order_relaxed);
 }
 
 static int32_t counted(int32_t error) {
@@ -432,7 +433,8 @@ int32_t core_ask(const struct question *it, jg_verdict *verdict, jg_value *given
         }
         return counted(error);
     }
-    counts.asked++;
+    uint64_t asked = atomic_load_explicit(&counts.asked, memory_order_relaxed);
+    atomic_store_explicit(&counts.asked, asked + 1, memory_order_relaxed);
     if (record_is_open()) {
         record_question(it, verdict);
     }

@@ -11,14 +11,17 @@ struct object;
 
 extern jg_core core;
 
-/* How many questions were asked and denied, and what was refused by fault of the agent. */
+/*
+ * How many questions were asked and denied, and what was refused by fault of the agent. At the end they are read while
+ * threads go on.
+ */
 struct counts {
-    uint64_t asked;
-    uint64_t denied;
-    uint64_t unasked;    /* calls that couldn't be asked about */
-    uint64_t impossible; /* facts that can't be, as the core says */
-    uint64_t refused;    /* other errors of the library, want of memory among them */
-    uint64_t unseen;     /* releases, pops and exits of what began before the agent came */
+    _Atomic uint64_t asked; /* it is written under core_lock */
+    _Atomic uint64_t denied;
+    _Atomic uint64_t unasked;    /* calls that couldn't be asked about */
+    _Atomic uint64_t impossible; /* facts that can't be, as the core says */
+    _Atomic uint64_t refused;    /* other errors of the library, want of memory among them */
+    _Atomic uint64_t unseen;     /* releases, pops and exits of what began before the agent came */
 };
 
 extern struct counts counts;
@@ -73,7 +76,7 @@ void core_name_text(jg_value name, char *text);
 void core_answer_text(uint32_t rule, char *text, size_t room);
 
 /* Counts one more. It needs no lock. */
-void core_count(uint64_t *count);
+void core_count(_Atomic uint64_t *count);
 
 /*
  * How many facts were told so far, or may have been. As long as it stays, the core answers a question as before. Those

@@ -70,7 +70,7 @@ static inline void set_state(struct young *it, enum young_state state) {
 /* It no longer lives. */
 static inline void ends(struct nursery *in, struct young *it, enum young_state state, uint32_t by,
                         const struct site *site) {
-    atomic_store_explicit(&it->ended, site, memory_order_relaxed);
+    atomic_store_explicit(&it->ended, site, memory_order_release);
     atomic_store_explicit(&it->ended_by, (uint16_t)by, memory_order_relaxed);
     set_state(it, state);
     in->live--;
@@ -201,14 +201,15 @@ void nursery_tell(struct thread *thread) {
 
 /* ---- other threads ---- */
 
-/* What other threads may read of it, while its own goes on. */
-static struct young seen_of(const struct young *it) {
-    return (struct young){.handle = it->handle,
-                          .made = it->made,
-                          .ended = it->ended,
-                          .made_by = it->made_by,
-                          .ended_by = it->ended_by,
-                          .state = it->state};
+/* What is known of another thread's, which goes on meanwhile. What belongs to a state was written before it. */
+static struct young read_other(const struct young *it) {
+    struct young found = {.state = it->state};
+    found.handle = it->handle;
+    found.made = it->made;
+    found.made_by = it->made_by;
+    found.ended = it->ended;
+    found.ended_by = it->ended_by;
+    return found;
 }
 
 /* What another thread knows of the handle: the number of that thread, or 0. It isn't found again. */
@@ -219,7 +220,7 @@ static uint32_t take_other(const struct thread *thread, uintptr_t handle, struct
     struct young *it = of != NULL && of != thread ? young_of(&of->nursery, handle) : NULL;
     if (it != NULL && state_of(it) != YOUNG_NOT && state_of(it) != YOUNG_NAMED_HELD && !it->is_told) {
         it->is_told = 1;
-        *found = seen_of(it);
+        *found = read_other(it);
         number = of->number;
     }
     threads_unlock();
@@ -408,7 +409,7 @@ static inline int make(struct thread *thread, jobject handle, uint32_t function,
     /* One that lived there ended unseen, since the machine handed out the handle again. */
     in->live += state_of(it) != YOUNG_LIVE;
     in->made[in->made_count++] = address_of(handle);
-    atomic_store_explicit(&it->made, site, memory_order_relaxed);
+    atomic_store_explicit(&it->made, site, memory_order_release);
     atomic_store_explicit(&it->is_told, 0, memory_order_relaxed);
     atomic_store_explicit(&it->made_by, (uint16_t)function, memory_order_relaxed);
     it->bytes = bytes;

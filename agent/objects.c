@@ -639,12 +639,12 @@ struct object *objects_cleared(void) {
 }
 
 void objects_tell_cleared(struct object *object) {
-    uint64_t held;
-    if (object->is_gone || object->number < setup_count) {
+    uint64_t held, number = object->number;
+    if (object->is_gone || number < setup_count) {
         return;
     }
     free_monitor(object);
-    if (core_gone(&object->number, 1, &held) == 0) {
+    if (core_gone(&number, 1, &held) == 0) {
         object->is_gone = 1;
     } else {
         core_count(&counts.impossible);

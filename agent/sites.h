@@ -37,8 +37,8 @@ struct site {
     int is_wrapper;   /* it stands in a function that only passes calls on */
     int is_in_table;  /* its library has functions in the table that are called before the agent's */
     int is_own;       /* it stands in the agent: the library's code ended by a jump */
-    _Atomic int is_return; /* a call returns there, and stands before it */
-    int is_marked;    /* of sites.c alone */
+    _Atomic int is_return; /* a call returns there, and stands before it: it is written where that is seen */
+    _Atomic int is_marked; /* of sites.c alone */
     struct step step; /* of a wrapper: where its caller is */
 };
 

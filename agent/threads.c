@@ -23,6 +23,16 @@
 #include <stdlib.h>
 #include <string.h>
 
+/*
+ * In which round of a thread's destructors its struct is let go: the last. In that one the thread sanitizer lets the
+ * thread go, and after that nothing may run in it that is watched.
+ */
+#ifdef __SANITIZE_THREAD__
+enum { ROUNDS = PTHREAD_DESTRUCTOR_ITERATIONS - 1 };
+#else
+enum { ROUNDS = PTHREAD_DESTRUCTOR_ITERATIONS };
+#endif
+
 enum { MOST_THREADS = 65535, ROOM_BESIDE_HELD = 1024, HELD_BY_ROOM = 512 };
 
 static pthread_mutex_t lock = PTHREAD_MUTEX_INITIALIZER;
@@ -119,7 +129,7 @@ enum { LAST_ROUND = PTHREAD_DESTRUCTOR_ITERATIONS };
  */
 static void let_go(void *which) {
     struct thread *thread = which;
-    if (++thread->endings < LAST_ROUND) {
+    if (++thread->endings < ROUNDS) {
         pthread_setspecific(ending, thread);
         return;
     }
