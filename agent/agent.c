@@ -16,6 +16,7 @@
 #include <stdio.h>
 #include <stdlib.h>
 #include <string.h>
+#include <sys/mman.h>
 #include <unistd.h>
 
 JavaVM *vm;
@@ -25,9 +26,29 @@ _Atomic int is_live;
 
 static int is_loaded;
 static pid_t process;
+/* A page that a forked child finds filled with zeros; NULL where the system has none of these. */
+static const volatile char *of_parent;
 
 int agent_is_forked(void) {
     return getpid() != process;
+}
+
+int agent_is_copied(void) {
+    return of_parent != NULL ? *of_parent == 0 : agent_is_forked();
+}
+
+/* The page of a child is filled with zeros where it is a copy of this one. */
+static void mark_memory(void) {
+#ifdef MADV_WIPEONFORK
+    const size_t size = (size_t)sysconf(_SC_PAGESIZE);
+    char *page = mmap(NULL, size, PROT_READ | PROT_WRITE, MAP_PRIVATE | MAP_ANONYMOUS, -1, 0);
+    if (page != MAP_FAILED && madvise(page, size, MADV_WIPEONFORK) == 0) {
+        *page = 1;
+        of_parent = page;
+    } else if (page != MAP_FAILED) {
+        munmap(page, size);
+    }
+#endif
 }
 
 /* ---- memory ---- */
@@ -148,6 +169,7 @@ static jint load(JavaVM *machine_vm, const char *words) {
         return JNI_ERR;
     }
     process = getpid();
+    mark_memory();
     if (options_read(words) != 0 || report_open() != 0) {
         return JNI_ERR;
     }

@@ -44,6 +44,9 @@ extern _Atomic int is_live;
  */
 int agent_is_forked(void);
 
+/* Whether this process has a copy of the machine's memory: a forked child has, but one of vfork. It makes no call. */
+int agent_is_copied(void);
+
 /* Memory that must be had: without it the agent says so and aborts. The first is filled with zeros. */
 void *must_make(size_t size);
 void *must_grow(void *items, size_t size);

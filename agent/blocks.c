@@ -163,7 +163,10 @@ struct counted blocks_count(struct block *of) {
 }
 
 uint64_t blocks_denied(void) {
-    return denied;
+    pthread_mutex_lock(&lock);
+    uint64_t count = denied;
+    pthread_mutex_unlock(&lock);
+    return count;
 }
 
 struct block *blocks_copy(size_t *count) {

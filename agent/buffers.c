@@ -20,7 +20,10 @@
 #include <stdlib.h>
 #include <string.h>
 
-enum { ZONE = 256, ZONE_BYTE = 0xA5, GIVEN_BYTE = 0xD6, FEWEST_LISTS = 256, MOST_TOLD = 8, PART = 1024 };
+enum { ZONE = 256, ZONE_BYTE = 0xA5, GIVEN_BYTE = 0xD6, FEWEST_LISTS = 256, MOST_TOLD = 8, PART = 2048 };
+
+/* Of copies that may be held back each has so many bytes in the mean: together they fit into a processor's cache. */
+enum { HELD_BYTES = 16 << 10 };
 
 /* A pair of calls, of which the second is yet to come. */
 struct pair {
@@ -64,7 +67,7 @@ static struct spin lock;
 static struct lent **lists;
 static size_t list_count, lent_count;
 static struct lent *oldest, **newest = &oldest;
-static size_t held_count;
+static size_t held_count, held_bytes;
 static struct lent *criticals; /* those that are open */
 
 static struct lent **list_of(const void *at) {
@@ -342,14 +345,14 @@ static size_t look(struct lent *lent, const struct seen *seen) {
 /*
  * What was stored into a critical buffer goes into the machine's memory: only items that differ from what was lent. The
  * first that does stands at `first` or behind it. Another thread may store meanwhile, so the machine is given what is
- * kept.
+ * kept. Long runs go part by part, so that memory comes into the processor's nearest cache once.
  */
 static void hand_on(struct lent *lent, unsigned char *memory, size_t first) {
     size_t size = objects_item_size(lent->shape);
     for (size_t at = items_difference(lent->at, lent->was, first, lent->bytes); at < lent->bytes;
          at = items_difference(lent->at, lent->was, at, lent->bytes)) {
-        size_t begun = at / size * size;
-        at = items_end_of_changed(lent->at, lent->was, begun, lent->bytes, size);
+        size_t begun = at / size * size, end = lent->bytes - begun < PART ? lent->bytes : begun + PART;
+        at = items_end_of_changed(lent->at, lent->was, begun, end, size);
         at = at > begun ? at : begun + size;
         memcpy(lent->was + begun, lent->at + begun, at - begun);
         memcpy(memory + begun, lent->was + begun, at - begun);
@@ -415,21 +418,33 @@ static void look_at_given(struct lent *lent) {
     tell_late(lent, late.is_found ? late : store_in_zones(lent));
 }
 
+/* How many copies are held back at most. */
+static size_t most_held(void) {
+    return (size_t)options.quarantine / 4;
+}
+
+/* The bytes of a copy and of its items as they were lent. */
+static size_t bytes_of(const struct lent *lent) {
+    return is_critical(lent->family) ? 2 * lent->bytes : lent->bytes;
+}
+
 /* The copy that was given back longest ago is held no longer. Under the lock. */
 static struct lent *take_first(void) {
     struct lent *taken = oldest;
     oldest = taken->held;
     newest = oldest ? newest : &oldest;
     held_count--;
+    held_bytes -= bytes_of(taken);
     quarantine_bytes -= (int64_t)taken->bytes;
     take_out(taken);
     return taken;
 }
 
-/* The same where too many are kept, or NULL. */
-static struct lent *take_oldest(size_t most) {
+/* The same where too many are kept, or NULL. The newest is kept however long it is. */
+static struct lent *take_oldest(void) {
     spin_lock(&lock);
-    int is_over = held_count > most || (held_count > 0 && quarantine_is_full(0));
+    int is_over = held_count > most_held() || (held_count > 1 && held_bytes > most_held() * HELD_BYTES) ||
+                  (held_count > 0 && quarantine_is_full(0));
     struct lent *taken = is_over ? take_first() : NULL;
     spin_unlock(&lock);
     return taken;
@@ -437,11 +452,11 @@ static struct lent *take_oldest(size_t most) {
 
 /* The same where the new copy would be one too many once it is given back, and can have its block. */
 static struct lent *take_fitting(const struct lent *fresh) {
-    size_t most = (size_t)options.quarantine / 4;
     spin_lock(&lock);
     int fits = held_count > 0 && !is_ended && oldest->bytes == fresh->bytes &&
                is_critical(oldest->family) == is_critical(fresh->family) &&
-               (held_count >= most || quarantine_is_full(fresh->bytes));
+               (held_count >= most_held() || held_bytes + bytes_of(fresh) > most_held() * HELD_BYTES ||
+                quarantine_is_full(fresh->bytes));
     struct lent *taken = fits ? take_first() : NULL;
     spin_unlock(&lock);
     return taken;
@@ -582,7 +597,10 @@ static struct lent *join(const struct call *call, void *memory, const struct pai
         it = it->critical;
     }
     if (it != NULL) {
-        it->memory = memory;
+        /* Else it is there already, and may be read without the lock: the first pair fills the copy. */
+        if (it->memory == NULL) {
+            it->memory = memory;
+        }
         add_pair(it, pair);
     }
     return it;
@@ -858,6 +876,7 @@ static void hold_back(struct lent *lent) {
     *newest = lent;
     newest = &lent->held;
     held_count++;
+    held_bytes += bytes_of(lent);
     quarantine_bytes += (int64_t)lent->bytes;
     spin_unlock(&lock);
 }
@@ -881,7 +900,7 @@ static void let_go_of(struct lent *lent) {
         } else {
             hold_back(lent);
         }
-        while ((old = take_oldest((size_t)options.quarantine / 4)) != NULL) {
+        while ((old = take_oldest()) != NULL) {
             look_at_given(old);
             let_go(old);
         }

@@ -725,7 +725,10 @@ static struct object *thrown_by(struct call *call, jg_value says) {
 static void note_pending(struct call *call, jg_value says, const struct object *thrown) {
     if (says.kind == JG_THREW || call->row->effect == EFFECT_RAISES) {
         call->thread->is_pending = 1;
-        call->thread->thrower = (struct thrower){thrown, call->site, call->function};
+        struct thrower *thrower = &call->thread->thrower;
+        thrower->of = thrown;
+        thrower->site = call->site;
+        thrower->function = call->function;
     } else if (call->row->effect == EFFECT_CALMS) {
         call->thread->is_pending = 0;
     }

@@ -18,6 +18,7 @@
 #include <errno.h>
 #include <fcntl.h>
 #include <pthread.h>
+#include <stdatomic.h>
 #include <stdio.h>
 #include <stdlib.h>
 #include <string.h>
@@ -59,14 +60,29 @@ static void put_text(const char *text) {
     put(text, strlen(text));
 }
 
-void core_name_text(jg_value name, char *text, size_t room) {
-    static const char LETTERS[] = {[JG_LOCAL] = 'L', [JG_GLOBAL] = 'G', [JG_WEAK] = 'W', [JG_BUFFER] = 'B',
-                                   [JG_ENVIRONMENT] = 'E'};
-    if (name.kind == JG_OBJECT) {
-        snprintf(text, room, "O%llu", (unsigned long long)name.number);
-    } else {
-        snprintf(text, room, "%c%u.%llu", LETTERS[name.kind], (unsigned)name.detail, (unsigned long long)name.number);
+/* Adds the digits of the number, and answers where they end. Lines are made under the lock, so not by printf. */
+static char *add_digits(char *end, uint64_t number, unsigned base) {
+    char digits[24];
+    size_t count = 0;
+    do {
+        digits[count++] = "0123456789abcdef"[number % base];
+        number /= base;
+    } while (number > 0);
+    while (count > 0) {
+        *end++ = digits[--count];
     }
+    return end;
+}
+
+void core_name_text(jg_value name, char *text) {
+    static const char LETTERS[] = {[JG_LOCAL] = 'L',  [JG_GLOBAL] = 'G',      [JG_WEAK] = 'W',
+                                   [JG_BUFFER] = 'B', [JG_ENVIRONMENT] = 'E', [JG_OBJECT] = 'O'};
+    *text++ = LETTERS[name.kind];
+    if (name.kind != JG_OBJECT) {
+        text = add_digits(text, name.detail, 10);
+        *text++ = '.';
+    }
+    *add_digits(text, name.number, 10) = 0;
 }
 
 void core_answer_text(uint32_t rule, char *text, size_t room) {
@@ -129,8 +145,25 @@ static void put_question(const char *made, size_t size, const char *const *names
 /* The name of a library's file has at most 255 bytes, and each is spelled by four at most. */
 enum { END_ROOM = 1200 };
 
+/* Of a question that passed: ` = passed @ libdemo.so+0x1133`. How long it is; or, where there is no room, could be. */
+static int passed_at(const struct site *site, char *text, size_t room) {
+    static const char WORDS[] = " = passed @ ", BETWEEN[] = "+0x";
+    size_t name = strlen(site->library->name), most = sizeof WORDS + name + sizeof BETWEEN + 2 * sizeof site->offset;
+    if (most >= room) {
+        return (int)most;
+    }
+    char *end = mempcpy(mempcpy(text, WORDS, sizeof WORDS - 1), site->library->name, name);
+    end = add_digits(mempcpy(end, BETWEEN, sizeof BETWEEN - 1), site->offset, 16);
+    *end++ = '\n';
+    *end = 0;
+    return (int)(end - text);
+}
+
 int core_end_of_question(uint32_t rule, const struct site *site, char *text, size_t room) {
     char answer[64];
+    if (rule == JG_PASSED && site != NULL) {
+        return passed_at(site, text, room);
+    }
     core_answer_text(rule, answer, sizeof answer);
     if (site == NULL) {
         return snprintf(text, room, " = %s\n", answer);
@@ -153,10 +186,10 @@ static void record_question(const struct question *it, const jg_verdict *verdict
 
 static void record_fact(const jg_fact *fact, const jg_value *given) {
     uint8_t *line = line_of_library();
-    char name[64];
+    char name[CORE_NAME_ROOM];
     put_line(line, jg_fact_line(&core, fact, line, JG_LINE));
     if (given->kind != JG_NOTHING) {
-        core_name_text(*given, name, sizeof name);
+        core_name_text(*given, name);
         put_text(" = ");
         put_text(name);
     }
@@ -291,14 +324,15 @@ void core_unlock(void) {
     const struct endings ended = untold;
     untold = (struct endings){0, 0};
     pthread_mutex_unlock(&lock);
+    record_tend();
     tell_endings(ended);
     for (size_t at = 0; at < count; at++) {
         report_advice(&advice[at]);
     }
 }
 
-void core_count(uint64_t *count) {
-    __atomic_fetch_add(count, 1, __ATOMIC_RELAXED);
+void core_count(_Atomic uint64_t *count) {
+    atomic_fetch_add_explicit(count, 1, memory_order_relaxed);
 }
 
 static int32_t counted(int32_t error) {
@@ -399,7 +433,8 @@ int32_t core_ask(const struct question *it, jg_verdict *verdict, jg_value *given
         }
         return counted(error);
     }
-    counts.asked++;
+    uint64_t asked = atomic_load_explicit(&counts.asked, memory_order_relaxed);
+    atomic_store_explicit(&counts.asked, asked + 1, memory_order_relaxed);
     if (record_is_open()) {
         record_question(it, verdict);
     }

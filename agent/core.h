@@ -11,14 +11,17 @@ struct object;
 
 extern jg_core core;
 
-/* How many questions were asked and denied, and what was refused by fault of the agent. */
+/*
+ * How many questions were asked and denied, and what was refused by fault of the agent. At the end they are read while
+ * threads go on.
+ */
 struct counts {
-    uint64_t asked;
-    uint64_t denied;
-    uint64_t unasked;    /* calls that couldn't be asked about */
-    uint64_t impossible; /* facts that can't be, as the core says */
-    uint64_t refused;    /* other errors of the library, want of memory among them */
-    uint64_t unseen;     /* releases, pops and exits of what began before the agent came */
+    _Atomic uint64_t asked; /* it is written under core_lock */
+    _Atomic uint64_t denied;
+    _Atomic uint64_t unasked;    /* calls that couldn't be asked about */
+    _Atomic uint64_t impossible; /* facts that can't be, as the core says */
+    _Atomic uint64_t refused;    /* other errors of the library, want of memory among them */
+    _Atomic uint64_t unseen;     /* releases, pops and exits of what began before the agent came */
 };
 
 extern struct counts counts;
@@ -68,11 +71,12 @@ int32_t core_tell_of(jg_fact fact, struct object *object, jg_value *given);
 int32_t core_gone(const uint64_t *objects, size_t count, uint64_t *held);
 
 /* As a record has them: a name, such as `L1.2` or `O15`; and an answer, `passed` or `deny 6 DeadReference`. */
-void core_name_text(jg_value name, char *text, size_t room);
+enum { CORE_NAME_ROOM = 40 };
+void core_name_text(jg_value name, char *text);
 void core_answer_text(uint32_t rule, char *text, size_t room);
 
 /* Counts one more. It needs no lock. */
-void core_count(uint64_t *count);
+void core_count(_Atomic uint64_t *count);
 
 /*
  * How many facts were told so far, or may have been. As long as it stays, the core answers a question as before. Those
@@ -98,7 +102,7 @@ void core_tell_length(uint32_t thread, uint64_t object, uint32_t length);
 /* Opens another core under the same setup, which only writes lines. 0, or an error. */
 int core_open_scribe(jg_core *scribe);
 
-/* What stands behind a question in the record: its answer and its place. How long that is, as snprintf says it. */
+/* What stands behind a question in the record: its answer and its place. How long that is; it is cut as by snprintf. */
 int core_end_of_question(uint32_t rule, const struct site *site, char *text, size_t room);
 
 /* All is told: nothing stands behind the last line of the record. What other threads do yet is written all the same. */

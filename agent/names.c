@@ -58,9 +58,8 @@ static struct name *place_of(const struct part *part, uintptr_t handle) {
 
 /* Gives the part so much room. */
 static void resize(struct part *part, size_t room) {
-    struct part other = *part;
-    other.room = room;
-    other.names = must_make(other.room * sizeof *other.names);
+    /* Its lock isn't copied: other threads ask for it meanwhile. */
+    struct part other = {.names = must_make(room * sizeof *other.names), .room = room};
     for (size_t at = 0; at < part->room; at++) {
         if (part->names[at].handle != 0) {
             *place_of(&other, part->names[at].handle) = part->names[at];

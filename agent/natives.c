@@ -211,9 +211,11 @@ static void *stub_of(jmethodID method, void *address, const struct site *site) {
     bound->method = method;
     bound->sweep = sweeps;
     struct native *native = native_of(bound, method, address);
-    /* Another library may stand at the address now. */
-    native->site = site;
-    native->is_judged = (uint8_t)site->is_judged;
+    /* Another library may stand at the address now. Else threads may be in the method, which read these. */
+    if (native->site != site || native->is_judged != site->is_judged) {
+        native->site = site;
+        native->is_judged = (uint8_t)site->is_judged;
+    }
     return native->stub;
 }
 
@@ -428,10 +430,12 @@ static struct object *receiver_of(struct native *native, JNIEnv *env, jobject ha
     if (!native->is_static) {
         return objects_of(env, handle);
     }
-    if (native->class == NULL) {
-        native->class = objects_of(env, handle);
+    struct object *class = native->class;
+    if (class == NULL) {
+        class = objects_of(env, handle);
+        native->class = class;
     }
-    return native->class;
+    return class;
 }
 
 /* The method is handed a local reference to the argument. Between core_lock and core_unlock. */

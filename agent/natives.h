@@ -24,9 +24,9 @@ struct native {
     uint8_t is_judged;
     uint8_t is_static;
     uint8_t is_described;
-    struct object *class; /* of a static method: its class object, once it was seen */
-    uint8_t loads;        /* it loads or unloads libraries */
-    uint32_t words;       /* how many words of arguments stand on the stack */
+    struct object *_Atomic class; /* of a static method: its class object, once it was seen */
+    uint8_t loads;                /* it loads or unloads libraries */
+    uint32_t words;               /* how many words of arguments stand on the stack */
 };
 
 /* Whether stubs can be made: on this processor, and by leave of the system. */

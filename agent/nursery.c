@@ -18,7 +18,8 @@
 
 #include <stdlib.h>
 
-enum { FEWEST_BITS = 6, MOST_BITS = 11, CLAIM_BITS = 16 };
+/* A step among the places of a table is odd, so that it comes to each of them. */
+enum { FEWEST_BITS = 6, MOST_BITS = 11, CLAIM_BITS = 16, STEP = 9 };
 
 static struct thread *_Atomic claims[1 << CLAIM_BITS];
 
@@ -36,15 +37,19 @@ static inline struct thread *_Atomic *claim_of(uintptr_t handle) {
 
 /* ---- the table ---- */
 
-/* The place of the handle, or the empty one where it would stand. There are places. */
+/*
+ * The place of the handle, or the empty one where it would stand. There are places. The machine hands out slot after
+ * slot: eight that stand in 64 bytes have places beside each other, and those of others elsewhere.
+ */
 static inline struct young *place_of(const struct nursery *in, uintptr_t handle) {
-    size_t at = (uint64_t)handle * 0x9E3779B97F4A7C15u >> (64 - in->bits), last = ((size_t)1 << in->bits) - 1;
+    size_t eight = (uint64_t)(handle >> 6) * 0x9E3779B97F4A7C15u >> (64 - in->bits) & ~(size_t)7;
+    size_t at = eight | (handle >> 3 & 7), last = ((size_t)1 << in->bits) - 1;
     for (;;) {
         uintptr_t there = atomic_load_explicit(&in->places[at].handle, memory_order_relaxed);
         if (there == handle || there == 0) {
             return &in->places[at];
         }
-        at = (at + 1) & last;
+        at = (at + STEP) & last;
     }
 }
 
@@ -65,8 +70,8 @@ static inline void set_state(struct young *it, enum young_state state) {
 /* It no longer lives. */
 static inline void ends(struct nursery *in, struct young *it, enum young_state state, uint32_t by,
                         const struct site *site) {
-    atomic_store_explicit(&it->ended, site, memory_order_relaxed);
-    it->ended_by = (uint16_t)by;
+    atomic_store_explicit(&it->ended, site, memory_order_release);
+    atomic_store_explicit(&it->ended_by, (uint16_t)by, memory_order_relaxed);
     set_state(it, state);
     in->live--;
     if (in->live == 0) {
@@ -196,6 +201,17 @@ void nursery_tell(struct thread *thread) {
 
 /* ---- other threads ---- */
 
+/* What is known of another thread's, which goes on meanwhile. What belongs to a state was written before it. */
+static struct young read_other(const struct young *it) {
+    struct young found = {.state = it->state};
+    found.handle = it->handle;
+    found.made = it->made;
+    found.made_by = it->made_by;
+    found.ended = it->ended;
+    found.ended_by = it->ended_by;
+    return found;
+}
+
 /* What another thread knows of the handle: the number of that thread, or 0. It isn't found again. */
 static uint32_t take_other(const struct thread *thread, uintptr_t handle, struct young *found) {
     uint32_t number = 0;
@@ -204,7 +220,7 @@ static uint32_t take_other(const struct thread *thread, uintptr_t handle, struct
     struct young *it = of != NULL && of != thread ? young_of(&of->nursery, handle) : NULL;
     if (it != NULL && state_of(it) != YOUNG_NOT && state_of(it) != YOUNG_NAMED_HELD && !it->is_told) {
         it->is_told = 1;
-        *found = *it;
+        *found = read_other(it);
         number = of->number;
     }
     threads_unlock();
@@ -393,9 +409,9 @@ static inline int make(struct thread *thread, jobject handle, uint32_t function,
     /* One that lived there ended unseen, since the machine handed out the handle again. */
     in->live += state_of(it) != YOUNG_LIVE;
     in->made[in->made_count++] = address_of(handle);
-    atomic_store_explicit(&it->made, site, memory_order_relaxed);
+    atomic_store_explicit(&it->made, site, memory_order_release);
     atomic_store_explicit(&it->is_told, 0, memory_order_relaxed);
-    it->made_by = (uint16_t)function;
+    atomic_store_explicit(&it->made_by, (uint16_t)function, memory_order_relaxed);
     it->bytes = bytes;
     set_state(it, YOUNG_LIVE);
     return 1;

@@ -27,16 +27,19 @@ enum young_state {
     YOUNG_NAMED_HELD /* the same as held; and it has a name, since it was used after its end */
 };
 
-/* A local reference. Its own thread alone writes it, but for what another one had told of it. Others read it. */
+/*
+ * A local reference. Its own thread alone writes it, but for what another one had told of it. Others read what is
+ * atomic, each member on its own.
+ */
 struct young {
     _Atomic uintptr_t handle; /* 0: an empty place */
     const struct site *_Atomic made;
     const struct site *_Atomic ended;
-    uint32_t bytes;   /* of its object, or UNKNOWN_BYTES */
-    uint16_t made_by; /* functions, by their numbers */
+    uint32_t bytes;           /* of its object, or UNKNOWN_BYTES */
+    _Atomic uint16_t made_by; /* functions, by their numbers */
     _Atomic uint8_t state;
     _Atomic uint8_t is_told; /* another thread had it told */
-    uint16_t ended_by;
+    _Atomic uint16_t ended_by;
     uint64_t number; /* of one that has a name: the core's */
 };
 

@@ -9,6 +9,7 @@
 #include "core.h"
 #include "forks.h"
 #include "ids.h"
+#include "order.h"
 #include "sites.h"
 #include "spin.h"
 
@@ -229,7 +230,17 @@ static struct object *found(jobject handle) {
     if ((*tool)->GetTag(tool, handle, &tag) != JVMTI_ERROR_NONE) {
         return NULL;
     }
-    return (struct object *)(uintptr_t)tag;
+    struct object *object = (struct object *)(uintptr_t)tag;
+    if (object != NULL) {
+        order_taken(object);
+    }
+    return object;
+}
+
+/* The machine is told that this is the object's struct. Whether it took it. */
+static int tag(struct object *object, jobject handle) {
+    order_given(object);
+    return (*tool)->SetTag(tool, handle, (jlong)(uintptr_t)object) == JVMTI_ERROR_NONE;
 }
 
 /* The class object of a class of the setup has the class's number, if none has it yet. Whether it has. */
@@ -407,8 +418,7 @@ static struct object *meet(JNIEnv *env, jobject handle, uint64_t ended_before) {
     struct object *object = ended_count != ended_before ? found(meeting->handle) : NULL;
     if (object == NULL) {
         object = agreed(env, meeting);
-        if (object != NULL && tell_met(object) == 0 &&
-            (*tool)->SetTag(tool, meeting->handle, (jlong)(uintptr_t)object) == JVMTI_ERROR_NONE) {
+        if (object != NULL && tell_met(object) == 0 && tag(object, meeting->handle)) {
             meeting->is_tagged = 1;
         } else {
             core_count(&counts.refused);
@@ -629,12 +639,12 @@ struct object *objects_cleared(void) {
 }
 
 void objects_tell_cleared(struct object *object) {
-    uint64_t held;
-    if (object->is_gone || object->number < setup_count) {
+    uint64_t held, number = object->number;
+    if (object->is_gone || number < setup_count) {
         return;
     }
     free_monitor(object);
-    if (core_gone(&object->number, 1, &held) == 0) {
+    if (core_gone(&number, 1, &held) == 0) {
         object->is_gone = 1;
     } else {
         core_count(&counts.impossible);

@@ -25,19 +25,19 @@ struct class_info {
 
 struct object {
     struct object *next; /* in a list of objects that are gone, or that nothing holds */
-    uint64_t number;
+    _Atomic uint64_t number; /* the core's. It is another one where the object is met anew, under core_lock */
     uint64_t buried; /* when it was last that nothing held it, in nanoseconds */
     struct class_info *class;     /* of what class it is */
     struct class_info *described; /* of a class object: the class that it stands for */
     uint32_t class_number;
     uint32_t length;
     _Atomic uint32_t holds; /* by the machine, and by each name that refers to it */
-    uint32_t owner;         /* the thread that owns its monitor, as the core was told, and how often */
-    uint32_t owned;
+    _Atomic uint32_t owner; /* the thread that owns its monitor, as the core was told, and how often. Others read it */
+    _Atomic uint32_t owned;
     int is_entered;             /* it stands in the list of monitors that judged code entered */
     const struct site *entered; /* where that was last */
     int is_met;                 /* the core was told of it. Under core_lock */
-    int is_gone;                /* the core was told so */
+    _Atomic int is_gone;        /* the core was told so. It is written under core_lock */
     int is_buried;              /* nothing held it, and it is freed soon (objects.c) */
 };
 

@@ -28,9 +28,10 @@
 
 /*
  * The comments of the end are STEP bytes long, which two of and a line don't make a line too long. The file grows by
- * STEPS of them. A part is short, as much of it may stay empty. What stands so far behind the end isn't kept mapped.
+ * STEPS of them, and so does it ahead of need where less than SHORT is left. A part is short, as much of it may stay
+ * empty. What stands so far behind the end isn't kept mapped.
  */
-enum { PAGE = 4096, STEP = 16 << 10, STEPS = 64, MOST_PART = 8 << 10, KEPT = 2 << 20, COMMENT = 2 };
+enum { PAGE = 4096, STEP = 16 << 10, STEPS = 64, SHORT = 512 << 10, MOST_PART = 8 << 10, KEPT = 2 << 20, COMMENT = 2 };
 
 static const size_t MAPPED = (size_t)1 << 36;
 
@@ -43,6 +44,9 @@ static size_t border; /* where that comment ends */
 static size_t end;    /* of the file */
 static size_t let_go; /* what stands before is mapped no longer */
 static char comment[STEP];
+static _Atomic int is_short; /* the file is to grow soon */
+static int is_growing;       /* a thread makes it grow, without the lock */
+static pthread_cond_t grown = PTHREAD_COND_INITIALIZER;
 
 int record_is_open(void) {
     return file >= 0;
@@ -89,32 +93,62 @@ static size_t write_comments(int *error) {
     return *error == 0 ? (size_t)count / STEP : 0;
 }
 
-/* Makes the file longer. 0, or the error. */
-static int extend(void) {
-    int error = EFBIG;
-    size_t count = end + STEPS * STEP > MAPPED ? 0 : write_comments(&error);
-    if (count == 0) {
-        return error;
-    }
+/* Makes the file longer, without the lock: `at` is the place of the next line. How much longer; of 0 the error. */
+static size_t extend(size_t at, int *error) {
+    size_t more = end + STEPS * STEP > MAPPED ? 0 : write_comments(error) * STEP;
 #ifdef MADV_POPULATE_WRITE
-    madvise(base + end, count * STEP, MADV_POPULATE_WRITE);
+    madvise(base + end, more, MADV_POPULATE_WRITE);
 #endif
-    end += count * STEP;
-    let_go_before(place > KEPT ? (place - KEPT) & ~(size_t)(PAGE - 1) : 0);
-    return 0;
+    let_go_before(at > KEPT ? (at - KEPT) & ~(size_t)(PAGE - 1) : 0);
+    return more;
 }
 
-/* Sees to it that the comment is longer than this. 0, or the error. */
+/* Waits until no thread makes the file longer. The lock is free meanwhile. */
+static void wait_until_grown(void) {
+    while (is_growing) {
+        pthread_cond_wait(&grown, &lock);
+    }
+}
+
+/* Makes the file longer, or waits for who does it. The lock is free meanwhile. 0, or the error. */
+static int grow(void) {
+    int error = EFBIG;
+    if (is_growing) {
+        wait_until_grown();
+        return 0;
+    }
+    size_t at = place;
+    is_growing = 1;
+    is_short = 0;
+    pthread_mutex_unlock(&lock);
+    size_t more = extend(at, &error);
+    pthread_mutex_lock(&lock);
+    is_growing = 0;
+    end += more;
+    pthread_cond_broadcast(&grown);
+    return more > 0 ? 0 : error;
+}
+
+/*
+ * Sees to it that the comment is longer than this. 0, or the error: EFBIG also where the file is mapped no longer. The
+ * lock may be free meanwhile.
+ */
 static int make_room(size_t size) {
     while (place + size + COMMENT > border) {
-        int error = border == end ? extend() : 0;
-        if (error != 0) {
-            return error;
+        if (border == end) {
+            int error = grow();
+            if (error != 0 || !is_mapped) {
+                return error != 0 ? error : EFBIG;
+            }
+        } else {
+            if (border > 0) {
+                base[border - 1] = ' ';
+            }
+            border += STEP;
         }
-        if (border > 0) {
-            base[border - 1] = ' ';
-        }
-        border += STEP;
+    }
+    if (end - border < SHORT && !is_growing) {
+        is_short = 1;
     }
     return 0;
 }
@@ -157,9 +191,12 @@ static size_t put_lines(const char *lines, size_t size, int *error) {
 
 /* From now on lines are written by calls of the system, behind those that stand in the file. */
 static void end_mapping(void) {
-    is_mapped = 0;
-    if (ftruncate(file, (off_t)place) == 0) {
-        lseek(file, (off_t)place, SEEK_SET);
+    wait_until_grown();
+    if (is_mapped) {
+        is_mapped = 0;
+        if (ftruncate(file, (off_t)place) == 0) {
+            lseek(file, (off_t)place, SEEK_SET);
+        }
     }
 }
 
@@ -182,7 +219,8 @@ static int put(struct part *part, const char *lines, size_t size) {
 }
 
 int record_put(struct part *part, const char *lines, size_t size) {
-    if (file < 0 || agent_is_forked()) {
+    /* What is in memory a child of vfork writes as its parent would, with the facts that it tells the parent's core. */
+    if (file < 0 || (is_mapped ? agent_is_copied() : agent_is_forked())) {
         return 0;
     }
     int kept = errno;
@@ -206,7 +244,8 @@ static int take_part(struct part *part, uint64_t facts, size_t size) {
     }
     part->wanted = !was_used ? size : 2 * part->wanted < MOST_PART ? 2 * part->wanted : MOST_PART;
     size_t length = part->wanted >= size + COMMENT ? part->wanted : size;
-    int is_good = is_mapped && core_facts == facts && make_room(length) == 0;
+    /* While the file grows facts may be told. */
+    int is_good = is_mapped && core_facts == facts && make_room(length) == 0 && core_facts == facts;
     if (is_good) {
         base[place + length] = '#';
         memset(base + place + 1, ' ', length - 2);
@@ -230,6 +269,20 @@ int record_put_in(struct part *part, uint64_t facts, const char *line, size_t si
     put_line(base + part->at, line, size, part->end - part->at > size);
     part->at += size;
     return 1;
+}
+
+void record_tend(void) {
+    if (!is_short || agent_is_forked()) {
+        return;
+    }
+    int kept = errno;
+    pthread_mutex_lock(&lock);
+    if (is_mapped && is_short && !is_growing) {
+        /* Who needs the room meets the same error. */
+        (void)grow();
+    }
+    pthread_mutex_unlock(&lock);
+    errno = kept;
 }
 
 void record_close(struct part *part) {

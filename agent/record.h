@@ -35,6 +35,9 @@ int record_put(struct part *part, const char *lines, size_t size);
  */
 int record_put_in(struct part *part, uint64_t facts, const char *line, size_t size);
 
+/* Makes the file longer where it is to grow soon: called after lines were put, with no lock held. */
+void record_tend(void);
+
 /* The thread puts no line any more. */
 void record_close(struct part *part);
 

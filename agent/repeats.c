@@ -76,6 +76,13 @@ void repeats_forget(struct thread *thread) {
     }
 }
 
+/* Puts a line into the thread's part, behind so many facts. Whether it did. */
+static int put_in(struct writer *writer, uint64_t facts, const char *line, uint32_t size) {
+    int is_put = record_put_in(&writer->part, facts, line, size);
+    record_tend();
+    return is_put;
+}
+
 /* ---- questions ---- */
 
 static int is_same(const struct line *line, const struct question *it) {
@@ -128,7 +135,7 @@ int repeats_question(const struct question *it, uint64_t facts) {
     if (!is_same(line, it)) {
         make_line(writer, line, it);
     }
-    return line->size > 0 && record_put_in(&writer->part, facts, line->text, line->size);
+    return line->size > 0 && put_in(writer, facts, line->text, line->size);
 }
 
 /* ---- lengths ---- */
@@ -169,5 +176,5 @@ int repeats_length(uint32_t thread, uint64_t object, uint32_t length) {
     if (it->size == 0) {
         make_length(writer, it, thread);
     }
-    return it->size > 0 && record_put_in(&writer->part, it->facts, it->text, it->size);
+    return it->size > 0 && put_in(writer, it->facts, it->text, it->size);
 }

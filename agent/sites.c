@@ -431,7 +431,7 @@ static const struct site *find_or_add(uintptr_t at, const struct looked_up *it, 
         is_known = 1;
     }
     struct site *found = is_known ? place->site : NULL;
-    if (found != NULL && is_return) {
+    if (found != NULL && is_return && !found->is_return) {
         found->is_return = 1;
     }
     pthread_mutex_unlock(&lock);
@@ -806,40 +806,46 @@ static uintptr_t offset_of(const struct site *site) {
     return site->is_return && site->offset ? site->offset - 1 : site->offset;
 }
 
+/*
+ * Asks about places of one library. Of one that nothing was known of it isn't asked at once again, since each asking
+ * begins a process; at the end it is.
+ */
+static size_t find_in(const struct library *library, const uintptr_t *offsets, size_t count, enum haste haste,
+                      struct source *to, size_t room) {
+    int is_bare;
+    if (library == &NOWHERE || (haste == AT_ONCE && library->is_bare)) {
+        return 0;
+    }
+    size_t found = sources_find(library->path, offsets, count, haste, to, room, &is_bare);
+    if (is_bare) {
+        ((struct library *)(uintptr_t)library)->is_bare = 1;
+    }
+    return found;
+}
+
 /* Finds what stands at the first places, as many as are in one library. How many these are. */
-static size_t find_some(const struct site *const *all, size_t count, struct source *to, size_t room, size_t *found) {
-    enum { MOST = 16 };
-    uintptr_t offsets[MOST];
+static size_t find_some(const struct site *const *all, size_t count, enum haste haste, struct source *to, size_t room,
+                        size_t *found) {
+    uintptr_t offsets[MOST_ASKED];
     size_t some = 0;
-    while (some < count && some < MOST && all[some]->library == all[0]->library) {
+    while (some < count && some < MOST_ASKED && all[some]->library == all[0]->library) {
         offsets[some] = offset_of(all[some]);
         some++;
     }
-    *found = all[0]->library == &NOWHERE ? 0 : sources_find(all[0]->library->path, offsets, some, AT_ONCE, to, room);
+    *found = find_in(all[0]->library, offsets, some, haste, to, room);
     return some;
 }
 
-size_t sites_sources(const struct site *const *all, size_t count, struct source *to, size_t room) {
+size_t sites_sources(const struct site *const *all, size_t count, enum haste haste, struct source *to, size_t room) {
     size_t total = 0, found;
     for (size_t done = 0, some; done < count; done += some) {
-        some = find_some(all + done, count - done, to + total, room - total, &found);
+        some = find_some(all + done, count - done, haste, to + total, room - total, &found);
         for (size_t at = 0; at < found; at++) {
             to[total + at].which += done;
         }
         total += found;
     }
     return total;
-}
-
-int sites_source(const struct site *site, struct source *source) {
-    enum { MOST_LINES = 200 };
-    static int count;
-    /* Each is a process of its own, so a report of very many places does without. */
-    if (count++ >= MOST_LINES || site == NULL || site->library == &NOWHERE) {
-        return 0;
-    }
-    uintptr_t offset = offset_of(site);
-    return sources_find(site->library->path, &offset, 1, AT_END, source, 1) > 0 && source->line > 0;
 }
 
 __attribute__((constructor)) static void hold_at_fork(void) {

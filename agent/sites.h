@@ -5,9 +5,9 @@
 #define SITES_H
 
 #include "agent.h"
+#include "sources.h"
 #include "unwind.h"
 
-struct source;
 struct thread;
 
 struct library {
@@ -19,7 +19,8 @@ struct library {
     int is_of_jdk;
     int is_machine;
     int is_tool;   /* an agent of JVMTI: its callbacks have frames of locals, of which nobody tells */
-    int is_loaded; /* of sites.c alone */
+    int is_loaded; /* of sites.c alone, as is the next */
+    _Atomic int is_bare; /* addr2line knew nothing of its places, and it has no symbols */
 };
 
 /*
@@ -36,8 +37,8 @@ struct site {
     int is_wrapper;   /* it stands in a function that only passes calls on */
     int is_in_table;  /* its library has functions in the table that are called before the agent's */
     int is_own;       /* it stands in the agent: the library's code ended by a jump */
-    int is_return;    /* a call returns there, and stands before it */
-    int is_marked;    /* of sites.c alone */
+    _Atomic int is_return; /* a call returns there, and stands before it: it is written where that is seen */
+    _Atomic int is_marked; /* of sites.c alone */
     struct step step; /* of a wrapper: where its caller is */
 };
 
@@ -86,11 +87,11 @@ void sites_mark(const struct site *site);
 /* Writes `libdemo.so+0x11cf in Java_Demo_run`. */
 void sites_describe(const struct site *site, char *text, size_t room);
 
-/* Finds the function and the line of a place by addr2line, which takes long. Whether there are any. */
-int sites_source(const struct site *site, struct source *source);
-
-/* What stands in the source at these places (sources.h), as far as it is had at once. How many functions these are. */
-size_t sites_sources(const struct site *const *all, size_t count, struct source *to, size_t room);
+/*
+ * What stands in the source at these places (sources.h): how many functions these are. Places of one library that stand
+ * together are asked about together.
+ */
+size_t sites_sources(const struct site *const *all, size_t count, enum haste haste, struct source *to, size_t room);
 
 /* Grows whenever libraries were unloaded. */
 extern _Atomic uint32_t sites_generation;

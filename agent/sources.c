@@ -22,8 +22,8 @@
 #include <time.h>
 #include <unistd.h>
 
-/* How many places are asked about in one go, how large a library at once, and how long an answer may be, in bytes. */
-enum { MOST_ASKED = 16, MOST_LIBRARY = 64 << 20, MOST_ANSWER = 1 << 20 };
+/* How large a library may be that is asked about at once, and how long an answer, in bytes. */
+enum { MOST_LIBRARY = 64 << 20, MOST_ANSWER = 1 << 20 };
 
 /* How long one answer is waited for, and all that are had at once, in milliseconds. */
 static const int MOST_WAITING[] = {[AT_ONCE] = 2000, [AT_END] = 60000};
@@ -172,24 +172,39 @@ static int has_symbols(const char *path) {
     return has;
 }
 
-/* Behind each address, each function has a line for its name and one for its place. */
-static size_t read_answer(char *text, int is_named, struct source *to, size_t room) {
+/* What it says of one function, by a line for its name and one for its place. */
+static void take_function(const char *name, char *line, int is_named, struct source *to) {
+    take(*name == '?' ? "" : name, to->function, sizeof to->function);
+    take_line(line, to);
+    if (to->line == 0 && !is_named) {
+        *to->function = 0;
+    }
+}
+
+/* Behind each address stands each function. At the end the first of them is enough. */
+static size_t read_answer(char *text, int is_named, enum haste haste, struct source *to, size_t room) {
     char *rest = NULL, *line;
     size_t count = 0, addresses = 0;
     for (char *word = strtok_r(text, "\n", &rest); word != NULL && count < room; word = strtok_r(NULL, "\n", &rest)) {
         if (strncmp(word, "0x", 2) == 0) {
             addresses++;
         } else if (addresses > 0 && (line = strtok_r(NULL, "\n", &rest)) != NULL) {
+            int is_wanted = haste == AT_ONCE || count == 0 || to[count - 1].which != addresses - 1;
             to[count].which = addresses - 1;
-            take(*word == '?' ? "" : word, to[count].function, sizeof to[count].function);
-            take_line(line, &to[count]);
-            if (to[count].line == 0 && !is_named) {
-                *to[count].function = 0;
-            }
-            count += strcmp(sources_name(to[count].file), "jni.h") != 0;
+            take_function(word, line, is_named, &to[count]);
+            count += is_wanted && strcmp(sources_name(to[count].file), "jni.h") != 0;
         }
     }
     return count;
+}
+
+/* Whether it knows none of what it was asked about. */
+static int is_unknown(const struct source *all, size_t count) {
+    size_t at = 0;
+    while (at < count && *all[at].function == 0 && all[at].line == 0) {
+        at++;
+    }
+    return count > 0 && at == count;
 }
 
 /* Whether the program may wait for it now. */
@@ -204,15 +219,18 @@ static int is_worth_it(const char *path, enum haste haste) {
 }
 
 size_t sources_find(const char *path, const uintptr_t *offsets, size_t count, enum haste haste, struct source *to,
-                    size_t room) {
+                    size_t room, int *is_bare) {
+    *is_bare = 0;
     if (count > MOST_ASKED || !is_worth_it(path, haste)) {
         return 0;
     }
     int64_t begun = milliseconds();
+    int is_named = has_symbols(path);
     char *text = must_grow(NULL, MOST_ANSWER + 1);
     ask_about(path, offsets, count, MOST_WAITING[haste], text);
-    size_t found = read_answer(text, has_symbols(path), to, room);
+    size_t found = read_answer(text, is_named, haste, to, room);
     free(text);
+    *is_bare = !is_named && is_unknown(to, found);
     if (haste == AT_ONCE) {
         waited += milliseconds() - begun;
     }

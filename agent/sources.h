@@ -21,12 +21,16 @@ const char *sources_name(const char *path);
 /* At once: the program waits for the answer, so for a short time, and not too often. At the end it may take long. */
 enum haste { AT_ONCE, AT_END };
 
+/* How many places are asked about in one go. */
+enum { MOST_ASKED = 16 };
+
 /*
- * Finds what stands at these offsets of the library: each with the functions that were inlined there, the innermost
- * first. What C++ has of JNIEnv, in jni.h, isn't among them. How many they are.
+ * Finds what stands at these offsets of the library: at once each with the functions that were inlined there, the
+ * innermost first; at the end the innermost alone. What C++ has of JNIEnv, in jni.h, isn't among them. How many they
+ * are. `is_bare` says that nothing is known of any of them, and that the library has no table of symbols.
  */
 size_t sources_find(const char *path, const uintptr_t *offsets, size_t count, enum haste haste, struct source *to,
-                    size_t room);
+                    size_t room, int *is_bare);
 
 /* Looks for what is needed of the C library, so that the loader need not be asked later. */
 void sources_open(void);

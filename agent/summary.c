@@ -11,10 +11,50 @@
 #include <stdlib.h>
 #include <string.h>
 
-static struct source_line line_of(const struct site *site) {
-    struct source found;
-    int is_found = sites_source(site, &found);
-    return (struct source_line){is_found ? must_copy(found.file) : NULL, is_found ? found.line : 0};
+/* ---- lines ---- */
+
+/* Of a report of very many places only so many have lines: addr2line takes long. */
+enum { MOST_LINES = 200 };
+
+/* Places whose lines are wanted. */
+struct wanted {
+    const struct site *site;
+    struct source_line *line;
+};
+
+struct lines_wanted {
+    struct wanted all[MOST_LINES];
+    size_t count;
+};
+
+/* The line is that of the place, or none. */
+static void want(struct lines_wanted *wanted, const struct site *site, struct source_line *line) {
+    *line = (struct source_line){NULL, 0};
+    if (site != NULL && wanted->count < MOST_LINES) {
+        wanted->all[wanted->count++] = (struct wanted){site, line};
+    }
+}
+
+/* Those of one library stand together. */
+static int compare_wanted(const void *one, const void *other) {
+    const struct site *a = ((const struct wanted *)one)->site, *b = ((const struct wanted *)other)->site;
+    return ((uintptr_t)a->library > (uintptr_t)b->library) - ((uintptr_t)a->library < (uintptr_t)b->library);
+}
+
+static void find_lines(struct lines_wanted *wanted) {
+    const struct site *sites[MOST_LINES];
+    struct source *found = must_make(MOST_LINES * sizeof *found);
+    qsort(wanted->all, wanted->count, sizeof *wanted->all, compare_wanted);
+    for (size_t at = 0; at < wanted->count; at++) {
+        sites[at] = wanted->all[at].site;
+    }
+    size_t count = sites_sources(sites, wanted->count, AT_END, found, MOST_LINES);
+    for (size_t at = 0; at < count; at++) {
+        if (found[at].line > 0) {
+            *wanted->all[found[at].which].line = (struct source_line){must_copy(found[at].file), found[at].line};
+        }
+    }
+    free(found);
 }
 
 /* ---- by library ---- */
@@ -78,7 +118,7 @@ static void gather_owners(struct summary *summary) {
 
 /* ---- all ---- */
 
-static void gather_totals(struct summary *summary) {
+static void gather_totals(struct summary *summary, struct lines_wanted *wanted) {
     struct block *known = blocks_copy(&summary->total_count);
     summary->totals = must_make(summary->total_count * sizeof *summary->totals);
     for (size_t at = 0; at < summary->total_count; at++) {
@@ -87,8 +127,8 @@ static void gather_totals(struct summary *summary) {
         if (known[at].is_suppressed) {
             summary->suppressed += known[at].count;
         } else {
-            total->source = line_of(known[at].site);
-            total->region = line_of(known[at].head == 0 ? known[at].region : NULL);
+            want(wanted, known[at].site, &total->source);
+            want(wanted, known[at].head == 0 ? known[at].region : NULL, &total->region);
         }
     }
     free(known);
@@ -103,20 +143,22 @@ static void gather_totals(struct summary *summary) {
     }
 }
 
-static void gather_leaks(struct summary *summary, const struct leaks *leaks) {
+static void gather_leaks(struct summary *summary, const struct leaks *leaks, struct lines_wanted *wanted) {
     summary->leaks = *leaks;
     summary->leak_sources = must_make(leaks->count * sizeof *summary->leak_sources);
     for (size_t at = 0; at < leaks->count; at++) {
-        summary->leak_sources[at] = line_of(leaks->items[at].made);
+        want(wanted, leaks->items[at].made, &summary->leak_sources[at]);
     }
 }
 
 void summary_gather(struct summary *summary, const struct leaks *leaks) {
+    struct lines_wanted wanted = {.count = 0};
     *summary = (struct summary){.judged = counts.asked + threads_passed(), .denied = counts.denied};
     if (options.lists_leaks) {
-        gather_leaks(summary, leaks);
+        gather_leaks(summary, leaks, &wanted);
     }
-    gather_totals(summary);
+    gather_totals(summary, &wanted);
+    find_lines(&wanted);
     gather_owners(summary);
 }
 

@@ -23,6 +23,16 @@
 #include <stdlib.h>
 #include <string.h>
 
+/*
+ * In which round of a thread's destructors its struct is let go: the last. In that one the thread sanitizer lets the
+ * thread go, and after that nothing may run in it that is watched.
+ */
+#ifdef __SANITIZE_THREAD__
+enum { ROUNDS = PTHREAD_DESTRUCTOR_ITERATIONS - 1 };
+#else
+enum { ROUNDS = PTHREAD_DESTRUCTOR_ITERATIONS };
+#endif
+
 enum { MOST_THREADS = 65535, ROOM_BESIDE_HELD = 1024, HELD_BY_ROOM = 512 };
 
 static pthread_mutex_t lock = PTHREAD_MUTEX_INITIALIZER;
@@ -105,6 +115,13 @@ static void forget_envs(const struct thread *thread) {
 
 static void forget_held(struct thread *thread);
 
+/* The last round of the destructors of keys. That sanitizer, which knows nothing of the thread then, has one less. */
+#ifdef __SANITIZE_THREAD__
+enum { LAST_ROUND = PTHREAD_DESTRUCTOR_ITERATIONS - 1 };
+#else
+enum { LAST_ROUND = PTHREAD_DESTRUCTOR_ITERATIONS };
+#endif
+
 /*
  * The thread ends in the system. A library's key may have a destructor that makes calls and detaches the thread, so the
  * agent's waits for the last round. Where the thread is attached even then the machine keeps what it has of it; and so
@@ -112,7 +129,7 @@ static void forget_held(struct thread *thread);
  */
 static void let_go(void *which) {
     struct thread *thread = which;
-    if (++thread->endings < PTHREAD_DESTRUCTOR_ITERATIONS) {
+    if (++thread->endings < ROUNDS) {
         pthread_setspecific(ending, thread);
         return;
     }

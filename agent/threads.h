@@ -74,10 +74,13 @@ struct waiting {
     uint32_t count;
 };
 
-/* The judged call that left an exception pending last: of this object, or of this class. It is only compared. */
+/*
+ * The judged call that left an exception pending last: of this object, or of this class. It is only compared. Other
+ * threads read the place.
+ */
 struct thrower {
     const struct object *of;
-    const struct site *site;
+    const struct site *_Atomic site;
     uint32_t function;
 };
 
@@ -113,7 +116,7 @@ struct lease {
 
 struct thread {
     struct thread *next, *before; /* in the list of all */
-    uint32_t number;              /* 0: it has none now */
+    _Atomic uint32_t number;      /* 0: it has none now. Other threads read it */
     int is_attached;              /* a session of it was told */
     jg_value env_name;
     JNIEnv *env;

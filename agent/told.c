@@ -124,6 +124,7 @@ static char *text_of(int64_t (*say)(uint32_t, uint8_t *, size_t), uint32_t numbe
 /* ---- operands ---- */
 
 static void name_text(jg_value name, char *text, size_t room) {
+    char spelt[CORE_NAME_ROOM];
     if (name.kind == JG_NULL) {
         snprintf(text, room, "NULL");
     } else if (name.kind < JG_LOCAL || name.kind > JG_BUFFER) {
@@ -131,7 +132,8 @@ static void name_text(jg_value name, char *text, size_t room) {
     } else if (name.number == UINT64_MAX) {
         snprintf(text, room, "a handle that this thread wasn't given");
     } else {
-        core_name_text(name, text, room);
+        core_name_text(name, spelt);
+        snprintf(text, room, "%s", spelt);
     }
 }
 
@@ -256,7 +258,7 @@ static void gather_native(struct told *told, const struct call *call) {
     const struct site *stack[MOST_NATIVE];
     struct source sources[2 * MOST_NATIVE];
     size_t count = sites_stack(call->thread, call->site, call->frame, stack, MOST_NATIVE);
-    size_t found = sites_sources(stack, count, sources, 2 * MOST_NATIVE);
+    size_t found = sites_sources(stack, count, AT_ONCE, sources, 2 * MOST_NATIVE);
     for (size_t at = 0; at < count; at++) {
         size_t before = told->native_count;
         for (size_t some = 0; some < found; some++) {

@@ -1,11 +1,13 @@
 /*
  * jg.h: the guard `jg` for C (C99) and C++ (C++11).
  *
- * There are three kinds of handles.
+ * There are four kinds of handles.
  *
  * - A core (`jg_core`) stands in front of a virtual machine that answers by itself. It is asked whether a thread may
  *   make a call now (`jg_ask`, `jg_ending`), and is told what the machine did (`jg_did`, `jg_tell`, `jg_gone`). It
  *   keeps no journal; its memory follows what is live.
+ * - A witness (`jg_witness`) is a core that is asked by the machine's own handles. It is told which handle was handed
+ *   out for which reference (`jg_witness_hand`, `jg_witness_did`), and keeps what each means.
  * - A guard (`jg_guard`) answers scripts, as the program `jg` does: a line of a script in, its line of the journal out
  *   (`jg_call_line`). It keeps the journal.
  * - An adviser (`jg_adviser`) stands beside a core. It says what breaks no rule and is likely wrong (`jg_advise_call`,
@@ -23,9 +25,10 @@
  *
  * Answers. Each call answers a number: 0 or more where it did what stands there, below 0 (JG_CLOSED and so on) where it
  * did nothing. A call that answers an error changes nothing, so it may be made again after JG_NO_MEMORY; a verdict or a
- * name that it would write stays as it was. JG_UNWRITTEN alone comes of a call that was made. The numbers answered that
- * are no errors are lengths in bytes, numbers of rules and classes, or 0. Test with `< 0`: an `if (!jg_call_line(..))`
- * takes an error for an answer. Compilers warn where an answer isn't used: see JG_MUST_USE.
+ * name that it would write stays as it was. JG_UNWRITTEN alone comes of a call that was made; and where a witness
+ * refuses what a word is handed out for, the word means nothing. The numbers answered that are no errors are lengths in
+ * bytes, numbers of rules and classes, or 0. Test with `< 0`: an `if (!jg_call_line(..))` takes an error for an answer.
+ * Compilers warn where an answer isn't used: see JG_MUST_USE.
  *
  * Pointers. Nothing is allocated for the caller, and no pointer is kept once a call has returned: buffers may stand on
  * the stack. What a call writes may not lie in what it reads. A pointer that is null is answered by JG_NULL_POINTER,
@@ -63,7 +66,10 @@
  */
 #define JG_ABI 1
 
-/* JG_ABI by the name of a parameter: jg_core_open and jg_guard_open compare it with the library's. Hand it in as is. */
+/*
+ * JG_ABI by the name of a parameter: jg_core_open, jg_witness_open and jg_guard_open compare it with the library's.
+ * Hand it in as is.
+ */
 #define JG_VERSION JG_ABI
 
 /*
@@ -171,7 +177,9 @@ enum { /* embed/numbers: values */
                            one of more than 2^31 - 1 items is taken as if detail were 0: no jsize counts so many. No
                            rule speaks of how many items the lists of other functions have */
     JG_ITEMS = 15,      /* what a machine says: it lent a buffer of so many items: number, of 32 bits */
-    JG_THREW = 16       /* what a machine says: it threw the object of this number */
+    JG_THREW = 16,      /* what a machine says: it threw the object of this number */
+    JG_WORD = 17        /* an operand of a question to a witness: the handle of this number, as the machine hands it
+                           out; 0 is NULL. Other calls don't take it */
 };
 
 /*
@@ -467,6 +475,109 @@ int64_t jg_native_named(jg_core *core, uint32_t class_number, const uint8_t *nam
  */
 JG_MUST_USE
 int64_t jg_class_of(jg_core *core, uint32_t kind);
+
+/* ---- the witness ---- */
+
+/*
+ * A witness is a core that is asked by the machine's handles, which are words here: numbers of 64 bits that mean
+ * nothing but by what was told of them; 0 is NULL. The machine may hand out a word anew, once the reference is no more
+ * that it was handed out for. So the witness keeps for each word the newest name that it was handed out for, and the
+ * word means that name as long as its reference is in being: until it is deleted, or its frame is popped, its native
+ * method left, its session ended. Nobody need look for the words that a frame ends.
+ *
+ * Tell it each word that the machine hands out, as soon as it did: by jg_witness_did those that a call answers, by
+ * jg_witness_hand those that no call does, such as the arguments of a native method. Where a frame is popped that keeps
+ * an object, jg_witness_ending gives the name of its new reference: tell the word of that by jg_witness_handed.
+ *
+ * A JG_WORD stands where a question to a core has the name of a reference. A word that means nothing is asked as a dead
+ * local of the thread that asks: so it breaks rule 6, JG_DEAD_REFERENCE, unless an earlier rule is broken. Names may
+ * stand there too.
+ *
+ * The functions that need no handle (jg_tells, jg_told, jg_is_in_doubt) take the tickets of a witness. Numbers of
+ * classes depend on the setup alone: ask a core of the same text (jg_class_named, jg_native_named, jg_class_of), which
+ * may be closed at once.
+ */
+typedef struct jg_witness {
+    void *at;
+} jg_witness;
+
+/*
+ * Opens a closed handle on a witness that was told nothing; as jg_core_open. The names of references that ended are let
+ * go from time to time, but about `fewest` of them are kept, for jg_witness_last: 0 where nobody asks for them.
+ */
+JG_MUST_USE
+int32_t jg_witness_open(const uint8_t *text, size_t size, const jg_bounds *bounds, uint64_t fewest, uint32_t version,
+                        jg_witness *witness);
+
+/* Lets all go that the witness holds; it is closed then, and may be opened again. 0, or JG_CLOSED. */
+JG_MUST_USE
+int32_t jg_witness_close(jg_witness *witness);
+
+/*
+ * The machine handed the thread a reference to the object as this word, which isn't 0; `kind` is JG_LOCAL, JG_GLOBAL or
+ * JG_WEAK. That is told, and `name` gets the reference's name. What the word meant before has ended. 0; or JG_CLOSED,
+ * JG_BAD_THREAD, JG_BAD_VALUE; or JG_IMPOSSIBLE, JG_FULL, JG_NO_MEMORY, and then the word means nothing.
+ */
+JG_MUST_USE
+int32_t jg_witness_hand(jg_witness *witness, uint64_t word, uint32_t thread, uint32_t kind, const jg_value *object,
+                        jg_value *name);
+
+/*
+ * The machine handed out the word for the reference of this name, which is in being: one that jg_witness_ending or
+ * jg_witness_tell gave. What the word meant before has ended. 0; or JG_CLOSED, JG_BAD_VALUE; or JG_IMPOSSIBLE where
+ * there is no such reference, JG_NO_MEMORY, and then the word means nothing.
+ */
+JG_MUST_USE
+int32_t jg_witness_handed(jg_witness *witness, uint64_t word, const jg_value *name);
+
+/*
+ * The reference ended that the word was handed out for, and no call told it: the word means nothing any more. 0, or
+ * JG_CLOSED.
+ */
+JG_MUST_USE
+int32_t jg_witness_lapsed(jg_witness *witness, uint64_t word);
+
+/* As jg_tell. A reference that the fact hands out has no word until jg_witness_handed is called. */
+JG_MUST_USE
+int32_t jg_witness_tell(jg_witness *witness, const jg_fact *fact, jg_value *given);
+
+/* As jg_gone_held. */
+JG_MUST_USE
+int32_t jg_witness_gone(jg_witness *witness, const uint64_t *objects, size_t count, jg_held *held);
+
+/* As jg_ask, of words. */
+JG_MUST_USE
+int32_t jg_witness_ask(jg_witness *witness, uint32_t thread, const jg_value *env, uint32_t function,
+                       const jg_value *operands, size_t count, jg_verdict *verdict);
+
+/*
+ * As jg_ending, of words: where no rule is broken, what the call ends is told, and its words mean nothing any more.
+ * Where `given` is a reference, tell its word by jg_witness_handed once the machine has handed it out.
+ */
+JG_MUST_USE
+int32_t jg_witness_ending(jg_witness *witness, uint32_t thread, const jg_value *env, uint32_t function,
+                          const jg_value *operands, size_t count, jg_verdict *verdict, jg_value *given);
+
+/*
+ * As jg_did. `word` is the machine's handle for the reference that the call answered, and 0 where it answered none.
+ * What the word meant before has ended. Where JG_IMPOSSIBLE, JG_FULL or JG_NO_MEMORY is answered, it means nothing.
+ */
+JG_MUST_USE
+int32_t jg_witness_did(jg_witness *witness, jg_ticket *ticket, const jg_value *says, uint64_t word, jg_value *given);
+
+/*
+ * What the word means. 1, and `name` is that reference's name; 0 where it means nothing, and `name` is as it was; else
+ * JG_CLOSED.
+ */
+JG_MUST_USE
+int32_t jg_witness_meaning(jg_witness *witness, uint64_t word, jg_value *name);
+
+/*
+ * The newest name that the word was handed out for, whether its reference is in being or ended. 1, and it is written; 0
+ * where none is kept, and then the word means nothing; else JG_CLOSED. It is for reports.
+ */
+JG_MUST_USE
+int32_t jg_witness_last(jg_witness *witness, uint64_t word, jg_value *name);
 
 /* ---- the adviser ---- */
 
@@ -851,6 +962,114 @@ static inline int64_t jg_checked_class_of(jg_core *core, uint32_t kind) {
 }
 
 JG_MUST_USE
+static inline int32_t jg_checked_witness_open(const uint8_t *text, size_t size, const jg_bounds *bounds,
+                                              uint64_t fewest, uint32_t version, jg_witness *witness) {
+    const uint8_t none = 0;
+    if ((!text && size) || !bounds || !witness) {
+        return JG_NULL_POINTER;
+    }
+    return jg_witness_open(text ? text : &none, size, bounds, fewest, version, witness);
+}
+
+JG_MUST_USE
+static inline int32_t jg_checked_witness_close(jg_witness *witness) {
+    if (!witness) {
+        return JG_NULL_POINTER;
+    }
+    return jg_witness_close(witness);
+}
+
+JG_MUST_USE
+static inline int32_t jg_checked_witness_hand(jg_witness *witness, uint64_t word, uint32_t thread, uint32_t kind,
+                                              const jg_value *object, jg_value *name) {
+    if (!witness || !object || !name) {
+        return JG_NULL_POINTER;
+    }
+    return jg_witness_hand(witness, word, thread, kind, object, name);
+}
+
+JG_MUST_USE
+static inline int32_t jg_checked_witness_handed(jg_witness *witness, uint64_t word, const jg_value *name) {
+    if (!witness || !name) {
+        return JG_NULL_POINTER;
+    }
+    return jg_witness_handed(witness, word, name);
+}
+
+JG_MUST_USE
+static inline int32_t jg_checked_witness_lapsed(jg_witness *witness, uint64_t word) {
+    if (!witness) {
+        return JG_NULL_POINTER;
+    }
+    return jg_witness_lapsed(witness, word);
+}
+
+JG_MUST_USE
+static inline int32_t jg_checked_witness_tell(jg_witness *witness, const jg_fact *fact, jg_value *given) {
+    if (!witness || !fact || !given) {
+        return JG_NULL_POINTER;
+    }
+    return jg_witness_tell(witness, fact, given);
+}
+
+JG_MUST_USE
+static inline int32_t jg_checked_witness_gone(jg_witness *witness, const uint64_t *objects, size_t count,
+                                              jg_held *held) {
+    const uint64_t none = 0;
+    if (!witness || (!objects && count) || !held) {
+        return JG_NULL_POINTER;
+    }
+    return jg_witness_gone(witness, objects ? objects : &none, count, held);
+}
+
+JG_MUST_USE
+static inline int32_t jg_checked_witness_ask(jg_witness *witness, uint32_t thread, const jg_value *env,
+                                             uint32_t function, const jg_value *operands, size_t count,
+                                             jg_verdict *verdict) {
+    const jg_value none = {0, 0, 0};
+    if (!witness || !env || (!operands && count) || !verdict) {
+        return JG_NULL_POINTER;
+    }
+    return jg_witness_ask(witness, thread, env, function, operands ? operands : &none, count, verdict);
+}
+
+JG_MUST_USE
+static inline int32_t jg_checked_witness_ending(jg_witness *witness, uint32_t thread, const jg_value *env,
+                                                uint32_t function, const jg_value *operands, size_t count,
+                                                jg_verdict *verdict, jg_value *given) {
+    const jg_value none = {0, 0, 0};
+    if (!witness || !env || (!operands && count) || !verdict || !given) {
+        return JG_NULL_POINTER;
+    }
+    return jg_witness_ending(witness, thread, env, function, operands ? operands : &none, count, verdict, given);
+}
+
+JG_MUST_USE
+static inline int32_t jg_checked_witness_did(jg_witness *witness, jg_ticket *ticket, const jg_value *says,
+                                             uint64_t word, jg_value *given) {
+    if (!witness || !ticket || !says || !given) {
+        return JG_NULL_POINTER;
+    }
+    return jg_witness_did(witness, ticket, says, word, given);
+}
+
+JG_MUST_USE
+static inline int32_t jg_checked_witness_meaning(jg_witness *witness, uint64_t word, jg_value *name) {
+    if (!witness || !name) {
+        return JG_NULL_POINTER;
+    }
+    return jg_witness_meaning(witness, word, name);
+}
+
+JG_MUST_USE
+static inline int32_t jg_checked_witness_last(jg_witness *witness, uint64_t word, jg_value *name) {
+    if (!witness || !name) {
+        return JG_NULL_POINTER;
+    }
+    return jg_witness_last(witness, word, name);
+}
+
+JG_MUST_USE
 static inline int32_t jg_checked_adviser_open(uint64_t most, jg_adviser *adviser) {
     if (!adviser) {
         return JG_NULL_POINTER;
@@ -1087,6 +1306,18 @@ static inline int32_t jg_checked_is_utf8(const uint8_t *text, size_t size) {
 #define jg_class_named jg_checked_class_named
 #define jg_native_named jg_checked_native_named
 #define jg_class_of jg_checked_class_of
+#define jg_witness_open jg_checked_witness_open
+#define jg_witness_close jg_checked_witness_close
+#define jg_witness_hand jg_checked_witness_hand
+#define jg_witness_handed jg_checked_witness_handed
+#define jg_witness_lapsed jg_checked_witness_lapsed
+#define jg_witness_tell jg_checked_witness_tell
+#define jg_witness_gone jg_checked_witness_gone
+#define jg_witness_ask jg_checked_witness_ask
+#define jg_witness_ending jg_checked_witness_ending
+#define jg_witness_did jg_checked_witness_did
+#define jg_witness_meaning jg_checked_witness_meaning
+#define jg_witness_last jg_checked_witness_last
 #define jg_adviser_open jg_checked_adviser_open
 #define jg_adviser_close jg_checked_adviser_close
 #define jg_advise_call jg_checked_advise_call
@@ -1170,6 +1401,11 @@ static inline jg_value jg_buffer(uint32_t maker, uint64_t number) {
 /* The environment of the thread's session of this number, counted from 1: E1.2 is jg_environment(1, 2). */
 static inline jg_value jg_environment(uint32_t thread, uint64_t session) {
     return jg_value_of(JG_ENVIRONMENT, thread, session);
+}
+
+/* An operand of a question to a witness: this handle of the machine, of which 0 is NULL. */
+static inline jg_value jg_word(uint64_t word) {
+    return jg_value_of(JG_WORD, 0, word);
 }
 
 /* The object of this number; the class object of a class that the setup states has its class's. */
@@ -1268,6 +1504,13 @@ JG_MUST_USE
 static inline int32_t jg_tell_of(jg_core *core, jg_fact fact, jg_value *given) {
     jg_value unwanted;
     return jg_tell(core, &fact, given ? given : &unwanted);
+}
+
+/* The same of a witness. */
+JG_MUST_USE
+static inline int32_t jg_witness_tell_of(jg_witness *witness, jg_fact fact, jg_value *given) {
+    jg_value unwanted;
+    return jg_witness_tell(witness, &fact, given ? given : &unwanted);
 }
 
 /*

@@ -258,7 +258,7 @@ static void refuse_openings(known *k) {
 /* ---- questions ---- */
 
 static void refuse_heads(known *k) {
-    static const uint32_t KINDS[] = {JG_NULL, JG_LOCAL, JG_OBJECT, JG_NUMBER, JG_THREW, JG_THREW + 1, UINT32_MAX};
+    static const uint32_t KINDS[] = {JG_NULL, JG_LOCAL, JG_OBJECT, JG_NUMBER, JG_THREW, JG_WORD, UINT32_MAX};
     const jg_value *env = &k->env, *local = &k->local, far = jg_environment(65536, 1);
     REFUSED(JG_BAD_THREAD, jg_ask(&k->core, 65536, env, JG_FN_NewLocalRef, local, 1, &out.verdict));
     REFUSED(JG_BAD_THREAD, jg_ask(&k->core, UINT32_MAX, env, JG_FN_NewLocalRef, local, 1, &out.verdict));
@@ -321,7 +321,8 @@ static void count_lists(known *k) {
 }
 
 static void refuse_operands(known *k) {
-    static const uint32_t KINDS[] = {JG_NOTHING, JG_ENVIRONMENT, JG_OBJECT, JG_ITEMS, JG_THREW, 17, UINT32_MAX};
+    static const uint32_t KINDS[] = {JG_NOTHING, JG_ENVIRONMENT, JG_OBJECT, JG_ITEMS,
+                                     JG_THREW,   JG_WORD,        18,        UINT32_MAX};
     const jg_value *env = &k->env, far = jg_local(65536, 1), number = jg_number(1);
     jg_value two[2];
     two[0] = two[1] = k->local;
@@ -744,6 +745,188 @@ static void refuse_null_in_openings(void) {
     DONE(1, jg_is_utf8(NULL, 0));
 }
 
+/* ---- the witness ---- */
+
+/* A witness, the thread's environment, a string, and the word of a local reference to it, which is L1.1. */
+typedef struct witnessed {
+    jg_witness witness;
+    jg_value env;
+    jg_value object;
+} witnessed;
+
+enum { WORD = 0x7f80 };
+
+static const jg_value OF_WORD = {JG_WORD, 0, WORD};
+
+static jg_fact fact_about(uint32_t word, uint32_t first, uint32_t second) {
+    return jg_fact_of(word, THREAD, jg_nothing(), jg_null(), first, second);
+}
+
+static void open_witnessed(witnessed *w) {
+    const jg_bounds bounds = jg_no_bounds();
+    jg_value name;
+    memset(w, 0, sizeof *w);
+    DONE(0, jg_witness_open(jg_bytes(SETUP), sizeof SETUP - 1, &bounds, 0, JG_VERSION, &w->witness));
+    DONE(0, jg_witness_tell_of(&w->witness, fact_about(JG_BEGINS, 0, 0), &w->env));
+    DONE(0, jg_witness_tell_of(&w->witness, fact_about(JG_MET, 2, 5), &w->object));
+    DONE(0, jg_witness_hand(&w->witness, WORD, THREAD, JG_LOCAL, &w->object, &name));
+}
+
+/* The word means this reference of the thread still, or nothing where its number is 0. */
+static void expect_meaning(witnessed *w, uint64_t number) {
+    jg_value name = jg_local(THREAD, 0);
+    DONE(number != 0, jg_witness_meaning(&w->witness, WORD, &name));
+    DONE(1, jg_is_same(name, jg_local(THREAD, number)));
+}
+
+static void refuse_closed_witness(void) {
+    const jg_value env = jg_environment(THREAD, 1), name = jg_local(THREAD, 1), object = jg_object(15);
+    const jg_fact fact = fact_about(JG_BEGINS, 0, 0);
+    jg_witness witness = {NULL};
+    jg_ticket ticket;
+    memset(&ticket, 0, sizeof ticket);
+    REFUSED(JG_CLOSED, jg_witness_close(&witness));
+    REFUSED(JG_CLOSED, jg_witness_hand(&witness, WORD, THREAD, JG_LOCAL, &object, &out.given));
+    REFUSED(JG_CLOSED, jg_witness_handed(&witness, WORD, &name));
+    REFUSED(JG_CLOSED, jg_witness_lapsed(&witness, WORD));
+    REFUSED(JG_CLOSED, jg_witness_tell(&witness, &fact, &out.given));
+    REFUSED(JG_CLOSED, jg_witness_gone(&witness, &object.number, 1, &out.kept));
+    REFUSED(JG_CLOSED, jg_witness_ask(&witness, THREAD, &env, JG_FN_NewLocalRef, &OF_WORD, 1, &out.verdict));
+    REFUSED(JG_CLOSED, jg_witness_ending(&witness, THREAD, &env, JG_FN_DeleteLocalRef, &OF_WORD, 1, &out.verdict,
+                                         &out.given));
+    REFUSED(JG_CLOSED, jg_witness_did(&witness, &ticket, &object, WORD, &out.given));
+    REFUSED(JG_CLOSED, jg_witness_meaning(&witness, WORD, &out.given));
+    REFUSED(JG_CLOSED, jg_witness_last(&witness, WORD, &out.given));
+    DONE(1, witness.at == NULL);
+}
+
+static void refuse_null_to_witness(witnessed *w) {
+    const jg_bounds bounds = jg_no_bounds();
+    const jg_fact fact = fact_about(JG_ENTERS, 0, 0);
+    jg_witness *it = &w->witness, other = {NULL};
+    jg_ticket ticket;
+    memset(&ticket, 0, sizeof ticket);
+    REFUSED(JG_NULL_POINTER, jg_witness_open(NULL, 1, &bounds, 0, JG_VERSION, &other));
+    REFUSED(JG_NULL_POINTER, jg_witness_open(jg_bytes(SETUP), sizeof SETUP - 1, NULL, 0, JG_VERSION, &other));
+    REFUSED(JG_NULL_POINTER, jg_witness_open(jg_bytes(SETUP), sizeof SETUP - 1, &bounds, 0, JG_VERSION, NULL));
+    REFUSED(JG_NULL_POINTER, jg_witness_close(NULL));
+    REFUSED(JG_NULL_POINTER, jg_witness_hand(NULL, WORD, THREAD, JG_LOCAL, &w->object, &out.given));
+    REFUSED(JG_NULL_POINTER, jg_witness_hand(it, WORD, THREAD, JG_LOCAL, NULL, &out.given));
+    REFUSED(JG_NULL_POINTER, jg_witness_hand(it, WORD, THREAD, JG_LOCAL, &w->object, NULL));
+    REFUSED(JG_NULL_POINTER, jg_witness_handed(NULL, WORD, &w->object));
+    REFUSED(JG_NULL_POINTER, jg_witness_handed(it, WORD, NULL));
+    REFUSED(JG_NULL_POINTER, jg_witness_lapsed(NULL, WORD));
+    REFUSED(JG_NULL_POINTER, jg_witness_tell(NULL, &fact, &out.given));
+    REFUSED(JG_NULL_POINTER, jg_witness_tell(it, NULL, &out.given));
+    REFUSED(JG_NULL_POINTER, jg_witness_tell(it, &fact, NULL));
+    REFUSED(JG_NULL_POINTER, jg_witness_gone(NULL, &w->object.number, 1, &out.kept));
+    REFUSED(JG_NULL_POINTER, jg_witness_gone(it, NULL, 1, &out.kept));
+    REFUSED(JG_NULL_POINTER, jg_witness_gone(it, &w->object.number, 1, NULL));
+    REFUSED(JG_NULL_POINTER, jg_witness_ask(NULL, THREAD, &w->env, JG_FN_NewLocalRef, &OF_WORD, 1, &out.verdict));
+    REFUSED(JG_NULL_POINTER, jg_witness_ask(it, THREAD, NULL, JG_FN_NewLocalRef, &OF_WORD, 1, &out.verdict));
+    REFUSED(JG_NULL_POINTER, jg_witness_ask(it, THREAD, &w->env, JG_FN_NewLocalRef, NULL, 1, &out.verdict));
+    REFUSED(JG_NULL_POINTER, jg_witness_ask(it, THREAD, &w->env, JG_FN_NewLocalRef, &OF_WORD, 1, NULL));
+    REFUSED(JG_NULL_POINTER, jg_witness_ending(it, THREAD, &w->env, JG_FN_DeleteLocalRef, NULL, 1, &out.verdict,
+                                               &out.given));
+    REFUSED(JG_NULL_POINTER, jg_witness_ending(it, THREAD, &w->env, JG_FN_DeleteLocalRef, &OF_WORD, 1, &out.verdict,
+                                               NULL));
+    REFUSED(JG_NULL_POINTER, jg_witness_did(it, NULL, &w->object, WORD, &out.given));
+    REFUSED(JG_NULL_POINTER, jg_witness_did(it, &ticket, NULL, WORD, &out.given));
+    REFUSED(JG_NULL_POINTER, jg_witness_did(it, &ticket, &w->object, WORD, NULL));
+    REFUSED(JG_NULL_POINTER, jg_witness_meaning(NULL, WORD, &out.given));
+    REFUSED(JG_NULL_POINTER, jg_witness_meaning(it, WORD, NULL));
+    REFUSED(JG_NULL_POINTER, jg_witness_last(NULL, WORD, &out.given));
+    REFUSED(JG_NULL_POINTER, jg_witness_last(it, WORD, NULL));
+    DONE(0, jg_witness_gone(it, NULL, 0, &out.kept));
+    expect_meaning(w, 1);
+}
+
+/* Numbers that say nothing leave the word its meaning. */
+static void refuse_words(witnessed *w) {
+    static const uint32_t KINDS[] = {JG_NOTHING, JG_NULL, JG_BUFFER, JG_OBJECT, JG_WORD, UINT32_MAX};
+    const jg_bounds bounds = jg_no_bounds();
+    jg_witness *it = &w->witness, other = {NULL};
+    REFUSED(JG_IS_OPEN, jg_witness_open(jg_bytes(SETUP), sizeof SETUP - 1, &bounds, 0, JG_VERSION, it));
+    REFUSED(JG_BAD_VERSION, jg_witness_open(jg_bytes(SETUP), sizeof SETUP - 1, &bounds, 0, JG_VERSION + 1, &other));
+    REFUSED(JG_MISSING, jg_witness_open(NULL, 0, &bounds, 0, JG_VERSION, &other));
+    REFUSED(JG_BAD_THREAD, jg_witness_hand(it, WORD, 65536, JG_LOCAL, &w->object, &out.given));
+    for (size_t at = 0; at < sizeof KINDS / sizeof *KINDS; at++) {
+        const jg_value value = jg_value_of(KINDS[at], 0, WORD);
+        REFUSED(JG_BAD_VALUE, jg_witness_hand(it, WORD, THREAD, KINDS[at], &w->object, &out.given));
+        if (KINDS[at] != JG_OBJECT) {
+            REFUSED(JG_BAD_VALUE, jg_witness_hand(it, WORD, THREAD, JG_LOCAL, &value, &out.given));
+        }
+        if (KINDS[at] != JG_NULL) {
+            REFUSED(JG_BAD_VALUE, jg_witness_handed(it, WORD, &value));
+        }
+    }
+    DONE(1, other.at == NULL);
+    expect_meaning(w, 1);
+}
+
+/* Words stand where references do, and nowhere else. */
+static void refuse_word_operands(witnessed *w) {
+    const jg_fact none = fact_about(UINT32_MAX, 0, 0), late = fact_about(JG_BEGINS, 0, 0);
+    const jg_value *env = &w->env, far = jg_environment(65536, 1), thing = jg_object(15);
+    jg_witness *it = &w->witness;
+    REFUSED(JG_BAD_FACT, jg_witness_tell(it, &none, &out.given));
+    REFUSED(JG_IMPOSSIBLE, jg_witness_tell(it, &late, &out.given));
+    REFUSED(JG_BAD_THREAD, jg_witness_ask(it, 65536, env, JG_FN_NewLocalRef, &OF_WORD, 1, &out.verdict));
+    REFUSED(JG_BAD_VALUE, jg_witness_ask(it, THREAD, &far, JG_FN_NewLocalRef, &OF_WORD, 1, &out.verdict));
+    REFUSED(JG_BAD_VALUE, jg_witness_ask(it, THREAD, &OF_WORD, JG_FN_NewLocalRef, &OF_WORD, 1, &out.verdict));
+    REFUSED(JG_BAD_VALUE, jg_witness_ask(it, THREAD, env, JG_FN_NewLocalRef, &thing, 1, &out.verdict));
+    REFUSED(JG_NO_FUNCTION, jg_witness_ask(it, THREAD, env, JG_FUNCTIONS, &OF_WORD, 1, &out.verdict));
+    REFUSED(JG_MISFIT, jg_witness_ask(it, THREAD, env, JG_FN_EnsureLocalCapacity, &OF_WORD, 1, &out.verdict));
+    REFUSED(JG_MISFIT, jg_witness_ending(it, THREAD, env, JG_FN_DeleteLocalRef, NULL, 0, &out.verdict, &out.given));
+    expect_meaning(w, 1);
+}
+
+/* What is handed out by a fact that can't be ends what the word meant all the same. */
+static void refuse_what_cannot_be(witnessed *w) {
+    const jg_value dead = jg_local(THREAD, 99), nowhere = jg_object(99);
+    jg_witness *it = &w->witness;
+    jg_verdict verdict, again;
+    jg_value name;
+    jg_held held;
+    DONE(JG_IMPOSSIBLE, jg_witness_gone(it, &w->object.number, 1, &held));
+    DONE(1, held.by == JG_BY_REFERENCE && jg_is_same(held.name, jg_local(THREAD, 1)));
+    REFUSED(JG_IMPOSSIBLE, jg_witness_hand(it, WORD, THREAD, JG_LOCAL, &nowhere, &out.given));
+    expect_meaning(w, 0);
+    DONE(1, jg_witness_last(it, WORD, &name) == 0);
+    DONE(0, jg_witness_hand(it, WORD, THREAD, JG_LOCAL, &w->object, &name));
+    expect_meaning(w, 2);
+    REFUSED(JG_IMPOSSIBLE, jg_witness_handed(it, WORD, &dead));
+    expect_meaning(w, 0);
+    DONE(0, jg_witness_hand(it, WORD, THREAD, JG_LOCAL, &w->object, &name));
+    DONE(0, jg_witness_ask(it, THREAD, &w->env, JG_FN_NewLocalRef, &OF_WORD, 1, &verdict));
+    again = verdict;
+    REFUSED(JG_BAD_VALUE, jg_witness_did(it, &verdict.ticket, &OF_WORD, WORD, &out.given));
+    expect_meaning(w, 3);
+    REFUSED(JG_IMPOSSIBLE, jg_witness_did(it, &verdict.ticket, &nowhere, WORD, &out.given));
+    expect_meaning(w, 0);
+    DONE(0, jg_witness_did(it, &verdict.ticket, &w->object, WORD, &name));
+    expect_meaning(w, 4);
+    REFUSED(JG_BAD_TICKET, jg_witness_did(it, &verdict.ticket, &w->object, WORD, &out.given));
+    expect_meaning(w, 4);
+    name = jg_threw(w->object);
+    REFUSED(JG_IMPOSSIBLE, jg_witness_did(it, &again.ticket, &name, WORD, &out.given));
+    expect_meaning(w, 0);
+}
+
+static void refuse_witness(void) {
+    witnessed w;
+    refuse_closed_witness();
+    open_witnessed(&w);
+    refuse_null_to_witness(&w);
+    refuse_words(&w);
+    refuse_word_operands(&w);
+    refuse_what_cannot_be(&w);
+    DONE(0, jg_witness_close(&w.witness));
+    REFUSED(JG_CLOSED, jg_witness_close(&w.witness));
+}
+
+/* ---- texts ---- */
+
 /* Bytes that are modified UTF-8, and others: a 0, overlong forms, what is cut short, a form of four bytes. */
 static void test_utf8(void) {
     static const char *const TEXTS[] = {
@@ -858,6 +1041,7 @@ int main(void) {
     refuse_long();
     tell_places();
     refuse_null_in_openings();
+    refuse_witness();
     refuse_guard();
     refuse_numbers();
     test_utf8();

@@ -12,14 +12,16 @@ JNIEXPORT void JNICALL Java_Comes_watch(JNIEnv *env, jclass class) {
     void (*watch)(void) = (void (*)(void))dlsym(RTLD_DEFAULT, "held_watch");
     (void)env;
     (void)class;
-    watch();
+    if (watch != NULL) {
+        watch();
+    }
 }
 
 /* A question too: before one the agent hears of what is gone. */
 JNIEXPORT jlong JNICALL Java_Comes_held(JNIEnv *env, jclass class) {
     long (*bytes)(void) = (long (*)(void))dlsym(RTLD_DEFAULT, "held_bytes");
     E->IsSameObject(env, class, NULL);
-    return bytes();
+    return bytes != NULL ? bytes() : 0;
 }
 
 static jint takes(JNIEnv *env, jobject object, jobject other) {

@@ -1,15 +1,17 @@
 /*
  * late.c: stores into copies that were given back, by each kind of pair. Each is printed: the item's place, and what was
- * stored. So many pairs follow that the agent holds none of these copies any longer.
+ * stored. So many pairs follow that the agent holds none of these copies any longer. Where other threads gave back so
+ * many meanwhile that it may have held none of this one when it was stored into, that is printed as `perhaps`.
  */
 #include <jni.h>
+#include <stdatomic.h>
 #include <stdint.h>
 #include <stdio.h>
 #include <string.h>
 
 #define E (*env)
 
-enum { PAIRS = 150, FIRST_LATE = 10, INTS = 5000, FEW_INTS = 7, BOOLEANS = 3001, UNITS = 1500 };
+enum { MANY = 100, PAIRS = 150, FIRST_LATE = 10, INTS = 5000, FEW_INTS = 7, BOOLEANS = 3001, UNITS = 1500 };
 
 struct pair {
     void *(*begin)(JNIEnv *env, jobject object);
@@ -57,8 +59,14 @@ static const struct pair CRITICAL = {critical, end_critical, 4}, ABORTED = {crit
                          ELEMENTS = {elements, end_elements, 4}, BOOLEAN = {critical, end_critical, 1},
                          CHARS = {chars, end_chars, 2}, UTF = {utf, end_utf, 1};
 
-/* What stands there is another value now. Of what stands beside the items the agent tells a byte. */
-static void store(const struct pair *pair, unsigned char *items, int32_t at, int32_t count) {
+/* How many copies all threads gave back. */
+static _Atomic int given;
+
+/*
+ * What stands there is another value now. Of what stands beside the items the agent tells a byte. Before the copy was
+ * given back `before` were.
+ */
+static void store(const struct pair *pair, unsigned char *items, int32_t at, int32_t count, int before) {
     int32_t four;
     uint16_t two;
     long value;
@@ -75,7 +83,7 @@ static void store(const struct pair *pair, unsigned char *items, int32_t at, int
     } else {
         value = items[at] ^= 0x55;
     }
-    printf("late %d %ld\n", (int)at, value);
+    printf("%s %d %ld\n", given - before < MANY ? "late" : "perhaps", (int)at, value);
 }
 
 /* The pairs, of which some are of another object: their copies don't fit in each other's place. */
@@ -89,9 +97,11 @@ static void pairs(JNIEnv *env, const struct pair *pair, jobject object, int32_t 
         if (stored >= 0) {
             memcpy(items + turn % FEW_INTS * 4, &stored, 4);
         }
+        int before = given;
         pair->end(env, of, items);
+        given++;
         if (of == object && which >= 0 && which < (int)(sizeof late / sizeof *late) && late[which] < count + 4) {
-            store(pair, items, late[which], count);
+            store(pair, items, late[which], count, before);
         }
     }
 }

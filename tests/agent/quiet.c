@@ -15,7 +15,7 @@ void aside_pops(JNIEnv *env);
 void aside_deletes(JNIEnv *env, jobject local);
 
 static JavaVM *vm;
-static jobject kept, kept_text, global;
+static _Atomic(jobject) kept, kept_text, global; /* threads use them at the same time */
 static jobject receivers[8];
 static jintArray array;
 static void *items;

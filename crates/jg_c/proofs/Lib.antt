@@ -1,5 +1,6 @@
 mod Reading
 mod Holding
+mod Refusing
 mod Marking
 mod Naming
 mod Seeing

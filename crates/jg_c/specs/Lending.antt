@@ -5,15 +5,17 @@ use Rattle.jg_slot.specs.declared.slot.Slot.{Slot}
 use Rattle.jg_slot.specs.contracts.slot.Slot as slot
 use Rattle.jg_guard.specs.Guard.{State}
 use Rattle.jg_c.specs.declared.session.Session.{Session}
-use Rattle.jg_c.specs.declared.session.Session.TheVariants.{Core, Guard, Adviser}
+use Rattle.jg_c.specs.declared.session.Session.TheVariants.{Core, Witness, Guard, Adviser}
 use Rattle.jg_c.specs.declared.handle.Handle.{Handle}
 use Rattle.jg_c.specs.contracts.session.AdviserSession as noted
 use Rattle.jg_c.specs.contracts.session.CoreSession as asked
 use Rattle.jg_c.specs.contracts.session.GuardSession as kept
 use Rattle.jg_c.specs.contracts.session.Session as session
+use Rattle.jg_c.specs.contracts.session.WitnessSession as worded
 use Rattle.jg_c.specs.Advisers.{AdviserHeld}
 use Rattle.jg_c.specs.Cores.{CoreHeld}
-use Rattle.jg_c.specs.Sessions.{adviser_of, core_of, guard_of}
+use Rattle.jg_c.specs.Sessions.{adviser_of, core_of, guard_of, witness_of}
+use Rattle.jg_c.specs.Witnesses.{WitnessHeld}
 use Rattle.jg_c.specs.contracts.handle.Handle as handle
 
 -- the slot's pointer and value, as a handle
@@ -32,6 +34,16 @@ LendsOwnCore s r = LendsSo session.the_row asked.the_row s r
 abbrev pub LendsCore : MutBor Handle → Option (MutBor CoreHeld) → Fml
 LendsCore s r = LendsSo handle.the_row asked.the_row s r
     (λ new a. (old : CoreHeld) → core_of s.now.value ≡ Some old → new.value ≡ Some (Core a))
+    (λ new. new.value ≡ s.now.value)
+
+-- the same of a witness
+abbrev pub LendsOwnWitness : MutBor Session → Option (MutBor WitnessHeld) → Fml
+LendsOwnWitness s r = LendsSo session.the_row worded.the_row s r
+    (λ new a. (old : WitnessHeld) → witness_of (Some s.now) ≡ Some old → new ≡ Witness a) (λ new. new ≡ s.now)
+
+abbrev pub LendsWitness : MutBor Handle → Option (MutBor WitnessHeld) → Fml
+LendsWitness s r = LendsSo handle.the_row worded.the_row s r
+    (λ new a. (old : WitnessHeld) → witness_of s.now.value ≡ Some old → new.value ≡ Some (Witness a))
     (λ new. new.value ≡ s.now.value)
 
 -- the same of a guard

@@ -7,11 +7,14 @@ pub mod Tickets
 pub mod Given
 pub mod Holders
 pub mod Cores
+pub mod Witnesses
 pub mod Advisers
 pub mod Sessions
 pub mod Opened
 pub mod Questions
+pub mod WordQuestions
 pub mod Telling
+pub mod WordTelling
 pub mod Lines
 pub mod Names
 pub mod Guards

@@ -1,4 +1,4 @@
--- How a core or a guard is opened.
+-- How a core, a witness or a guard is opened.
 use Rattle.std.specs.Prelude.{ℕ, ℤ, pos, ◌≡◌, ◌≢◌, ◌<◌, ◌≤◌, ◌⊎◌, List, [], codes, length, IsUtf8}
 use Rattle.toml.specs.Parse.{parse_document}
 use Rattle.jg_policy.specs.declared.fault.SetupFault.{SetupFault}
@@ -8,9 +8,11 @@ use Rattle.jg_policy.specs.Findings.{text_faults_of, States}
 use Rattle.jg_policy.specs.Stated.{StatedSetup}
 use Rattle.jg_fault_text.specs.Setups.{TellsSetup}
 use Rattle.jg_core.specs.Kernel.{CoreStands}
+use Rattle.jg_witness.specs.Standing.{WitnessStands}
 use Rattle.jg_c.specs.Cores.{CoreHeld}
 use Rattle.jg_c.specs.Errors as errors
 use Rattle.jg_c.specs.Lines.{Writes}
+use Rattle.jg_c.specs.Witnesses.{WitnessHeld, core_in}
 
 -- the core was told nothing: its setup is what the bytes state, and its bounds are these
 pub record IsFresh (text : List ℕ) (capacity room items : ℤ) (a : CoreHeld) : Type 0 where
@@ -18,6 +20,10 @@ pub record IsFresh (text : List ℕ) (capacity room items : ℤ) (a : CoreHeld) 
   pub short : length text ≤ 16777216
   pub stands : CoreStands a.core []
   pub bounds : a.bounds ≡ record { capacity = capacity; length = room; items = items }
+
+-- the same of a witness, for which nothing happened
+abbrev pub IsFreshWitness : List ℕ → ℤ → ℤ → ℤ → WitnessHeld → Type 0
+IsFreshWitness text capacity room items a = IsFresh text capacity room items (core_in a) × WitnessStands a.witness []
 
 -- the bytes are more than a setup text may have; or the first fault of the text that they are, or they are no text
 pub record IsFaulty (text : List ℕ) (fault : SetupFault) : Type 0 where

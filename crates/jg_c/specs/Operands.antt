@@ -4,6 +4,8 @@ use Rattle.std.specs.Int.{cast_signed, w64}
 use Rattle.std.specs.Option.{option_map, option_and_then}
 use Rattle.jg_judge.specs.declared.argument.Argument.{Argument}
 use Rattle.jg_judge.specs.declared.argument.Argument.TheVariants as argument
+use Rattle.jg_witness.specs.declared.operand.Operand.{Operand}
+use Rattle.jg_witness.specs.declared.operand.Operand.TheVariants.{Word, Other}
 use Rattle.jg_c.specs.declared.value.JgValue.{JgValue}
 use Rattle.jg_c.specs.Values.{buffer_of, reference_of}
 
@@ -38,3 +40,7 @@ operand_of most v =
     else if nat_eq v.kind 13 then Some argument.Name
     else if nat_eq v.kind 14 then option_map (λ fits. argument.List v.number (fits && nat_le v.number most)) (flag_of v.detail)
     else option_map (λ r. argument.Reference r) (reference_of v)
+
+-- the operand of a question to a witness: a machine's word, or what a core takes
+abbrev pub word_operand_of : ℕ → JgValue → Option Operand
+word_operand_of most v = if nat_eq v.kind 17 then Some (Word v.number) else option_map (λ x. Other x) (operand_of most v)

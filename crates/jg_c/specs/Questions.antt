@@ -6,6 +6,7 @@ use Rattle.jg_words.specs.declared.thread.EnvId.{EnvId}
 use Rattle.jg_words.specs.Rule.{number_of}
 use Rattle.jg_judge.specs.declared.argument.Argument.{Argument}
 use Rattle.jg_judge.specs.declared.argument.Bounds.{Bounds}
+use Rattle.jg_witness.specs.declared.operand.Operand.{Operand}
 use Rattle.jg_core.specs.declared.fact.Fact.{Fact}
 use Rattle.jg_core.specs.declared.asking.Answer.{Answer}
 use Rattle.jg_core.specs.declared.asking.Answer.TheVariants.{Passed, Denied, NoFunction, Misfit}
@@ -20,7 +21,7 @@ use Rattle.jg_c.specs.declared.verdict.JgVerdict.{JgVerdict}
 use Rattle.jg_c.specs.Cores.{CoreHeld}
 use Rattle.jg_c.specs.Errors as errors
 use Rattle.jg_c.specs.Given.{of_given}
-use Rattle.jg_c.specs.Operands.{operand_of}
+use Rattle.jg_c.specs.Operands.{operand_of, word_operand_of}
 use Rattle.jg_c.specs.Tickets.{ticket_of}
 use Rattle.jg_c.specs.Values.{environment_of, thread_of}
 
@@ -30,36 +31,45 @@ use Rattle.jg_c.specs.Values.{environment_of, thread_of}
 abbrev pub most_items : ℕ → ℕ
 most_items function = if nat_eq function 161 then 2147483647 else 18446744073709551615
 
--- the operands that the values are, if all are
-abbrev pub operands_of : ℕ → List JgValue → Option (List Argument)
-operands_of most [] = Some []
-operands_of most (v ∷ vs) =
-    option_and_then (λ x. option_map (λ xs. x ∷ xs) (operands_of most vs)) (operand_of most v)
+-- the operands that the values are, if each is read as one
+abbrev pub operands_of : {A : Type 0} → (JgValue → Option A) → List JgValue → Option (List A)
+operands_of read [] = Some []
+operands_of read (v ∷ vs) =
+    option_and_then (λ x. option_map (λ xs. x ∷ xs) (operands_of read vs)) (read v)
 
 -- the place in the table, of which there are at most 65,536
 abbrev pub place_of : ℕ → Option ℕ
 place_of n = if nat_lt n 65536 then Some n else None
 
-abbrev by_place : Tid → Option EnvId → List Argument → Option ℕ → Result (Head × List Argument) ℤ
+abbrev by_place : {A : Type 0} → Tid → Option EnvId → List A → Option ℕ → Result (Head × List A) ℤ
 by_place t env xs None = Err errors.no_function
 by_place t env xs (Some n) = Ok (record { tid = t; env = env; function = n }, xs)
 
-abbrev by_operands : Tid → Option EnvId → ℕ → Option (List Argument) → Result (Head × List Argument) ℤ
+abbrev by_operands : {A : Type 0} → Tid → Option EnvId → ℕ → Option (List A) → Result (Head × List A) ℤ
 by_operands t env function None = Err errors.bad_value
 by_operands t env function (Some xs) = by_place t env xs (place_of function)
 
-abbrev by_env : Tid → Option (Option EnvId) → ℕ → List JgValue → Result (Head × List Argument) ℤ
-by_env t None function vs = Err errors.bad_value
-by_env t (Some env) function vs = by_operands t env function (operands_of (most_items function) vs)
+abbrev by_env : {A : Type 0} → Tid → Option (Option EnvId) → ℕ → Option (List A) → Result (Head × List A) ℤ
+by_env t None function xs = Err errors.bad_value
+by_env t (Some env) function xs = by_operands t env function xs
 
-abbrev by_thread : Option Tid → JgValue → ℕ → List JgValue → Result (Head × List Argument) ℤ
-by_thread None env function vs = Err errors.bad_thread
-by_thread (Some t) env function vs = by_env t (environment_of env) function vs
+abbrev by_thread : {A : Type 0} → Option Tid → JgValue → ℕ → Option (List A) → Result (Head × List A) ℤ
+by_thread None env function xs = Err errors.bad_thread
+by_thread (Some t) env function xs = by_env t (environment_of env) function xs
 
 -- the question, or the error of the numbers that state none: of the thread, then of the environment, then of the
--- operands, then of the function
+-- operands, then of the function; each operand is read so
+abbrev pub question_read : {A : Type 0} → (ℕ → JgValue → Option A) → ℕ → JgValue → ℕ → List JgValue
+    → Result (Head × List A) ℤ
+question_read read thread env function vs =
+    by_thread (thread_of thread) env function (operands_of (read (most_items function)) vs)
+
+-- a question to a core, and to a witness
 abbrev pub question_of : ℕ → JgValue → ℕ → List JgValue → Result (Head × List Argument) ℤ
-question_of thread env function vs = by_thread (thread_of thread) env function vs
+question_of thread env function vs = question_read operand_of thread env function vs
+
+abbrev pub word_question_of : ℕ → JgValue → ℕ → List JgValue → Result (Head × List Operand) ℤ
+word_question_of thread env function vs = question_read word_operand_of thread env function vs
 
 -- ---- what it is answered
 

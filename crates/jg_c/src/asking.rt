@@ -151,7 +151,7 @@ pub extern "C" fn jg_may(
 
 /// Writes how the question of a call that ends something was answered, and what it hands out. The ticket of one that
 /// passed is of a call that was told.
-fn write_ended(ended: Ended, verdict: &mut JgVerdict, given: &mut JgValue) -> i32
+pub(crate) fn write_ended(ended: Ended, verdict: &mut JgVerdict, given: &mut JgValue) -> i32
     ensures is { IsAnswered ended.answer verdict.new result }
     ensures given { result ≡ errors.done → given.new ≡ of_given ended.given }
     ensures kept { result ≢ errors.done → verdict.new ≡ verdict.old × given.new ≡ given.old }

@@ -22,7 +22,7 @@ use jg_words::{ObjId, Tid};
 use std::alloc::{AllocError, Global};
 
 /// Reads the objects into the list.
-fn read_objects(numbers: &[u64], objects: &mut Vec<ObjId>) -> Result<(), AllocError>
+pub(crate) fn read_objects(numbers: &[u64], objects: &mut Vec<ObjId>) -> Result<(), AllocError>
     ensures { OnOk result (objects.new.items ≡ objects_of numbers.now) }
 {
     objects.clear();

@@ -1,4 +1,4 @@
-//! The core, the guard and the adviser for C.
+//! The core, the witness, the guard and the adviser for C.
 #![tactic(auto)]
 
 mod advice;
@@ -30,13 +30,16 @@ mod ticket;
 mod utf8;
 mod value;
 mod verdict;
+mod word_asking;
+mod word_opening;
+mod word_telling;
 
 pub use advice::{JgAdvice, JgSpot};
 pub use fact::JgFact;
 pub use handle::Handle;
 pub use held::JgHeld;
 pub use opening::JgBounds;
-pub use session::{AdviserSession, CoreSession, Session};
+pub use session::{AdviserSession, CoreSession, Session, WitnessSession};
 pub use ticket::JgTicket;
 pub use value::JgValue;
 pub use verdict::JgVerdict;

@@ -157,6 +157,10 @@ pub(crate) const ITEMS: u32 = 15;
 /// What a machine says: it threw the object of this number.
 pub(crate) const THREW: u32 = 16;
 
+/// An operand of a question to a witness: the handle of this number, as the machine hands it out; 0 is NULL. Other
+/// calls don't take it.
+pub(crate) const WORD: u32 = 17;
+
 // ---- kinds of objects
 
 /// Of none of the kinds below.

@@ -47,6 +47,17 @@ pub(crate) fn read_setup(alloc: Global, text: &[u8]) -> Result<Setup, SetupFault
     }
 }
 
+/// The bounds of these numbers.
+pub(crate) fn bounds_of(bounds: &JgBounds) -> Bounds
+    ensures { result ≡ record { capacity = bounds.now.capacity; length = bounds.now.length; items = bounds.now.items } }
+{
+    Bounds {
+        capacity: bounds.capacity,
+        length: bounds.length,
+        items: bounds.items,
+    }
+}
+
 /// A core of this setup that was told nothing.
 fn fresh_core(alloc: Global, setup: Setup, bounds: &JgBounds) -> CoreSession
     ensures { (text : List ℕ) → States text setup → length text ≤ 16777216
@@ -54,11 +65,7 @@ fn fresh_core(alloc: Global, setup: Setup, bounds: &JgBounds) -> CoreSession
 {
     CoreSession {
         core: Core::new(alloc, setup),
-        bounds: Bounds {
-            capacity: bounds.capacity,
-            length: bounds.length,
-            items: bounds.items,
-        },
+        bounds: bounds_of(bounds),
         room: Lists {
             arguments: Vec::new(alloc),
             objects: Vec::new(alloc),

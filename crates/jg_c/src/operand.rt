@@ -1,11 +1,13 @@
 //! The operands of a question, as C holds them.
 
-ghost use Rattle.std.specs.Prelude.{◌≡◌};
+ghost use Rattle.std.specs.Prelude.{◌≡◌, ℕ, Option};
+ghost use Rattle.jg_c.specs.declared.value.JgValue.{JgValue};
 ghost use Rattle.jg_c.specs.Operands as operands;
 
-use crate::numbers::{BUFFER, CLASS, ID, LIST, NAME, NATIVE, NULL, NUMBER, WEAK, WIDE};
+use crate::numbers::{BUFFER, CLASS, ID, LIST, NAME, NATIVE, NULL, NUMBER, WEAK, WIDE, WORD};
 use crate::value::JgValue;
 use jg_judge::Argument;
+use jg_witness::Operand;
 
 /// Whether it fits or is stated: 1 where it does, 0 where not.
 fn flag_of(detail: u32) -> Option<bool>
@@ -62,5 +64,43 @@ pub(crate) fn operand_of(most: u64, value: JgValue) -> Option<Argument>
             fits: flag_of(value.detail)? && value.number <= most,
         }),
         _ => None,
+    }
+}
+
+/// The operand of a question to a witness that the value is, if it is one: a word, or what a core takes.
+#[inline(always)]
+fn word_operand_of(most: u64, value: JgValue) -> Option<Operand>
+    ensures { result ≡ operands.word_operand_of most value }
+{
+    if value.kind == WORD {
+        return Some(Operand::Word(value.number));
+    }
+    Some(Operand::Other(operand_of(most, value)?))
+}
+
+/// What a value of a question is read as: an operand for a core, or for a witness.
+pub(crate) trait Reading: Copy {
+    ghost reading: { ℕ → JgValue → Option Self };
+
+    /// Reads the value, if it is an operand. A list of more than `most` items doesn't fit.
+    fn read(most: u64, value: JgValue) -> Option<Self>
+        ensures { result ≡ reading most value };
+}
+
+impl Reading for Argument {
+    ghost reading = { operands.operand_of };
+
+    #[inline(always)]
+    fn read(most: u64, value: JgValue) -> Option<Argument> {
+        operand_of(most, value)
+    }
+}
+
+impl Reading for Operand {
+    ghost reading = { operands.word_operand_of };
+
+    #[inline(always)]
+    fn read(most: u64, value: JgValue) -> Option<Operand> {
+        word_operand_of(most, value)
     }
 }

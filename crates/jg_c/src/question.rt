@@ -2,12 +2,11 @@
 
 ghost use Rattle.std.specs.Prelude.{◌≡◌, ◌≢◌, Some, None, Ok, Err, IfOk, IfErr};
 ghost use Rattle.jg_c.specs.Errors as errors;
-ghost use Rattle.jg_c.specs.Questions.{most_items, operands_of, place_of, question_of};
+ghost use Rattle.jg_c.specs.Questions.{most_items, operands_of, place_of, question_read};
 
 use crate::numbers::{BAD_THREAD, BAD_VALUE, NO_FUNCTION, NO_MEMORY};
-use crate::operand::operand_of;
+use crate::operand::Reading;
 use crate::value::{JgValue, thread_of};
-use jg_judge::Argument;
 use jg_words::{EnvId, Tid};
 
 /// A question but for its operands: the thread, its environment, and the function's place in the table.
@@ -39,19 +38,23 @@ fn most_items(function: u32) -> u64
 
 /// Reads the operands into the list, or answers why there are none. A list has at most so many items.
 #[inline(always)]
-fn read_operands(most: u64, values: &[JgValue], arguments: &mut Vec<Argument>) -> Result<(), i32>
-    ensures ok { IfOk result (λ done. operands_of most values.now ≡ Some arguments.new.items) }
+fn read_operands<X: Reading>(
+    most: u64,
+    values: &[JgValue],
+    operands: &mut Vec<X>,
+) -> Result<(), i32>
+    ensures ok { IfOk result (λ done. operands_of (X.reading most) values.now ≡ Some operands.new.items) }
     ensures err { IfErr result (λ n. n ≢ errors.no_memory
-        → (n ≡ errors.bad_value) × (operands_of most values.now ≡ None)) }
+        → (n ≡ errors.bad_value) × (operands_of (X.reading most) values.now ≡ None)) }
     ensures numbers { IfErr result (λ n. (n ≢ errors.closed) × (n ≢ errors.done)) }
 {
-    arguments.clear();
+    operands.clear();
     let mut rest = values;
     while let Some((value, later)) = rest.split_first() {
-        let Some(argument) = operand_of(most, *value) else {
+        let Some(operand) = X::read(most, *value) else {
             return Err(BAD_VALUE);
         };
-        let Ok(()) = arguments.push(argument) else {
+        let Ok(()) = operands.push(operand) else {
             return Err(NO_MEMORY);
         };
         rest = later;
@@ -72,17 +75,17 @@ fn place_of(function: u32) -> Option<u16>
 
 /// Reads a question, its operands into the list, or answers why the numbers state none.
 #[inline(always)]
-pub(crate) fn read_question(
+pub(crate) fn read_question<X: Reading>(
     thread: u32,
     env: &JgValue,
     function: u32,
-    operands: &[JgValue],
-    arguments: &mut Vec<Argument>,
+    values: &[JgValue],
+    operands: &mut Vec<X>,
 ) -> Result<Head, i32>
-    ensures ok { IfOk result (λ head. question_of thread env.now function operands.now
-        ≡ Ok (head, arguments.new.items)) }
+    ensures ok { IfOk result (λ head. question_read X.reading thread env.now function values.now
+        ≡ Ok (head, operands.new.items)) }
     ensures err { IfErr result (λ n. n ≢ errors.no_memory
-        → question_of thread env.now function operands.now ≡ Err n) }
+        → question_read X.reading thread env.now function values.now ≡ Err n) }
     ensures numbers { IfErr result (λ n. (n ≢ errors.closed) × (n ≢ errors.done)) }
 {
     let Some(tid) = thread_of(thread) else {
@@ -91,7 +94,7 @@ pub(crate) fn read_question(
     let Some(env) = env.environment() else {
         return Err(BAD_VALUE);
     };
-    match read_operands(most_items(function), operands, arguments) {
+    match read_operands(most_items(function), values, operands) {
         Ok(()) => match place_of(function) {
             Some(function) => Ok(Head { tid, env, function }),
             None => Err(NO_FUNCTION),

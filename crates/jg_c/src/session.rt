@@ -5,6 +5,8 @@ use jg_core::Core;
 use jg_guard::Guard;
 use jg_judge::Bounds;
 use jg_record::Lists;
+use jg_witness::{Operand, Witness};
+use jg_words::ObjId;
 use std::collections::VecDeque;
 use std::marker::Model;
 
@@ -33,6 +35,35 @@ impl Model for CoreSession {
     ghost Value = { CoreHeld };
 
     ghost view = { λ a. record { core = a.core; bounds = a.bounds } };
+}
+
+/// A witness, and the bounds by which it judges. Contracts see both.
+pub struct WitnessSession {
+    pub(crate) witness: Witness,
+    pub(crate) bounds: Bounds,
+    /// Room for operands, kept so that a question takes no memory once it has been as long.
+    pub(crate) operands: Vec<Operand>,
+    /// Room for objects that are gone.
+    pub(crate) objects: Vec<ObjId>,
+}
+
+impl Drop for WitnessSession {
+    fn drop(self) {
+        let WitnessSession {
+            witness: _witness,
+            bounds: _,
+            operands: _operands,
+            objects: _objects,
+        } = self;
+    }
+}
+
+impl Model for WitnessSession {
+    ghost use Rattle.jg_c.specs.Witnesses.{WitnessHeld};
+
+    ghost Value = { WitnessHeld };
+
+    ghost view = { λ a. record { witness = a.witness; bounds = a.bounds } };
 }
 
 /// A guard. Contracts see it.
@@ -91,6 +122,7 @@ impl Model for AdviserSession {
 #[derive(Drop)]
 pub enum Session {
     Core(CoreSession),
+    Witness(WitnessSession),
     Guard(GuardSession),
     Adviser(AdviserSession),
 }

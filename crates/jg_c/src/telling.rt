@@ -94,7 +94,7 @@ pub extern "C" fn jg_tell(core: &mut Handle, fact: &JgFact, given: &mut JgValue)
 }
 
 /// Whether a machine may say so: what it threw can be thrown.
-fn can_say(core: &Core, says: Says) -> bool
+pub(crate) fn can_say(core: &Core, says: Says) -> bool
     ensures { (w : List Fact) → CoreStands core.now w → result ≡ specs.can_say core.now.setup (parts_of w) says }
 {
     match says {

@@ -7,7 +7,6 @@ use Rattle.jg_words.specs.declared.reference.Ref.{Ref}
 use Rattle.jg_words.specs.declared.reference.Ref.TheVariants.{Null, To}
 use Rattle.jg_judge.specs.declared.argument.Argument.{Argument}
 use Rattle.jg_judge.specs.declared.argument.Argument.TheVariants.{Reference}
-use Rattle.jg_core.specs.declared.fact.Fact.{Fact}
 use Rattle.jg_core.specs.Asking.{asked}
 use Rattle.jg_core.specs.Facts.{parts_of, is_in_being}
 use Rattle.jg_core_laws.specs.Apart.{is_theirs, concerning}

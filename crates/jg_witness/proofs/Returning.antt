@@ -66,7 +66,7 @@ returned_stands old middle new last names kept left ticket says word given same 
       (r.answers (facts_of e) (room e stands).core);
 }
 
-stays_both : (old new : CoreState) (names : List (ℕ × Ref)) → Stayed old new → Stays (both old names) (both new names)
+pub stays_both : (old new : CoreState) (names : List (ℕ × Ref)) → Stayed old new → Stays (both old names) (both new names)
 stays_both old new names stayed e stands = record {
   core = stayed.stands (facts_of e) stands.core;
   named = stands.named;
@@ -150,3 +150,18 @@ ended_keeps old new names bounds t env function operands (Ok out) ends stayed is
     ended_by (both old names) (both new names) bounds t env function operands out out.answer refl ends is
 ended_keeps old new names bounds t env function operands (Err why) ends stayed is =
     follows (both old names) (both new names) (λ e. e) (stays_both old new names stayed) is
+
+-- ---- the setup is what it was
+
+ended_setup : (old new : CoreState) (names : List (ℕ × Ref)) (bounds : Bounds) (t : Tid) (env : Option EnvId) (function : ℕ) (xs : List Argument) (out : Ended)
+    (answer : Answer) → out.answer ≡ answer → asking.EndedAs old new bounds t env function xs out → IsWitness (both old names) → new.setup ≡ old.setup
+ended_setup old new names bounds t env function xs out (Passed ticket) was ends is = (ends.passed ticket was (facts_of is.happened) is.stands.core).setup
+ended_setup old new names bounds t env function xs out (Denied rule operand ticket) was ends is = (ends.otherwise (ap is_passed was)).0.setup
+ended_setup old new names bounds t env function xs out NoFunction was ends is = (ends.otherwise (ap is_passed was)).0.setup
+ended_setup old new names bounds t env function xs out Misfit was ends is = (ends.otherwise (ap is_passed was)).0.setup
+
+pub setup_kept : (old new : CoreState) (names : List (ℕ × Ref)) (bounds : Bounds) (t : Tid) (env : Option EnvId) (function : ℕ) (xs : List Argument)
+    (result : Result Ended Untold) → IfOk result (asking.EndedAs old new bounds t env function xs) → OnErr result (Stayed old new)
+    → IsWitness (both old names) → new.setup ≡ old.setup
+setup_kept old new names bounds t env function xs (Ok out) ends stayed is = ended_setup old new names bounds t env function xs out out.answer refl ends is
+setup_kept old new names bounds t env function xs (Err why) ends stayed is = stayed.setup

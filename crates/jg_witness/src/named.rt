@@ -16,8 +16,9 @@ use std::alloc::Allocator;
 
 /// Tells the core that the reference ended, if it is in being.
 fn lose<A: Allocator + Clone>(core: &mut Core<A>, name: Option<Ref>)
-    ensures { (w : List FactOf) → CoreStands core.old w
+    ensures stands { (w : List FactOf) → CoreStands core.old w
         → CoreStands core.new (lost_after (if_in_being (parts_of w) name) w) }
+    ensures setup { core.new.setup ≡ core.old.setup }
 {
     if let Some(name) = name {
         // Where it isn't in being the core says that this can't be, and stays as it is.
@@ -27,8 +28,9 @@ fn lose<A: Allocator + Clone>(core: &mut Core<A>, name: Option<Ref>)
 
 /// The reference ended that the word was handed out for, and no call told it.
 pub(crate) fn lapse<A: Allocator + Clone>(core: &mut Core<A>, names: &mut Names<A>, word: u64)
-    ensures { (e : List Event) → WitnessStands (both core.old names.old.entries) e
+    ensures stands { (e : List Event) → WitnessStands (both core.old names.old.entries) e
         → WitnessStands (both core.new names.new.entries) (Lapsed word ∷ e) }
+    ensures setup { core.new.setup ≡ core.old.setup }
 {
     let older = names.remove(&word);
     lose(core, older);
@@ -48,6 +50,7 @@ pub(crate) fn make_room_for<A: Allocator + Clone>(
     ensures err { OnErr result ((e : List Event) → WitnessStands (both core.old names.old.entries) e
         → WitnessStands (both core.new names.new.entries) (Lapsed word ∷ e)) }
     ensures why { IfErr result (λ why. why ≡ Untold.NoMemory) }
+    ensures setup { core.new.setup ≡ core.old.setup }
 {
     match make_room(names, sweeping, &core.view()) {
         Ok(()) => Ok(()),
@@ -72,6 +75,7 @@ pub(crate) fn make_room_unless_null<A: Allocator + Clone>(
     ensures err { OnErr result ((e : List Event) → WitnessStands (both core.old names.old.entries) e
         → WitnessStands (both core.new names.new.entries) (Lapsed word ∷ e)) }
     ensures why { IfErr result (λ why. why ≡ Untold.NoMemory) }
+    ensures setup { core.new.setup ≡ core.old.setup }
 {
     if word == 0 {
         return Ok(());
@@ -87,9 +91,10 @@ pub(crate) fn put<A: Allocator + Clone>(
     name: Ref,
 )
     requires { 0 < spare names.old }
-    ensures { (e : List Event) → WitnessStands (both core.old names.old.entries) e
+    ensures stands { (e : List Event) → WitnessStands (both core.old names.old.entries) e
         → IsCounted (parts_of (facts_of e)) name
         → WitnessStands (both core.new names.new.entries) (Handed word name ∷ e) }
+    ensures setup { core.new.setup ≡ core.old.setup }
 {
     let Ok(older) = names.insert(word, name) else {
         // There was room.
@@ -106,9 +111,10 @@ pub(crate) fn put_given<A: Allocator + Clone>(
     given: Given,
 )
     requires { word ≢ 0 → 0 < spare names.old }
-    ensures { (e : List Event) → WitnessStands (both core.old names.old.entries) e
+    ensures stands { (e : List Event) → WitnessStands (both core.old names.old.entries) e
         → GivesCounted (parts_of (facts_of e)) given
         → WitnessStands (both core.new names.new.entries) (handed_on word given e) }
+    ensures setup { core.new.setup ≡ core.old.setup }
 {
     if word == 0 {
         return;

@@ -1,6 +1,6 @@
 //! The witness.
 
-ghost use Rattle.std.specs.Prelude.{◌≡◌, ◌≢◌, ◌∷◌, [], List, false, Some, IfSome, slice_index_or, IfOk, IfErr, OnOk, OnErr};
+ghost use Rattle.std.specs.Prelude.{◌≡◌, ◌≢◌, ◌∷◌, [], List, false, Some, None, IfSome, IfNone, slice_index_or, IfOk, IfErr, OnOk, OnErr};
 ghost use Rattle.jg_words.specs.declared.reference.Ref.TheVariants.{To};
 ghost use Rattle.jg_rules.specs.Names.{next_ref};
 ghost use Rattle.jg_core.specs.declared.fact.Fact.TheVariants.{Hand};
@@ -87,6 +87,7 @@ impl<A: Allocator + Copy> Witness<A> {
         ensures by { IfErr result (λ held. (e : List Event) → WitnessStands self.old e
             → Keeps self.old.core.setup (parts_of (facts_of e))
             (slice_index_or objects.now held.place (record { 0 = 0 })).0 held.by) }
+        ensures setup { self.new.core.setup ≡ self.old.core.setup }
     {
         self.core.gone(objects)
     }
@@ -109,8 +110,9 @@ impl<A: Allocator + Clone> Witness<A> {
 
     /// The newest name that the word was handed out for, in being or not, where it is kept still.
     pub fn last(&self, word: u64) -> Option<Ref>
-        ensures { IfSome result (λ name. (e : List Event) → WitnessStands self.now e
+        ensures newest { IfSome result (λ name. (e : List Event) → WitnessStands self.now e
             → events.newest word e ≡ Some name) }
+        ensures none { IfNone result ((e : List Event) → WitnessStands self.now e → events.meaning word e ≡ None) }
     {
         find(&self.names, word)
     }
@@ -123,13 +125,15 @@ impl<A: Allocator + Clone> Witness<A> {
             → out ≡ implied.given_by self.old.core.setup (parts_of (facts_of e)) fact) }
         ensures err { OnErr result (Stays self.old self.new) }
         ensures why { IfErr result (Refuses self.old.core fact) }
+        ensures setup { self.new.core.setup ≡ self.old.core.setup }
     {
         self.core.tell(fact)
     }
 
     /// The reference ended that the word was handed out for, and no call told it: the word means nothing any more.
     pub fn lapsed(&mut self, word: u64)
-        ensures { Takes self.old self.new (Lapsed word) }
+        ensures takes { Takes self.old self.new (Lapsed word) }
+        ensures setup { self.new.core.setup ≡ self.old.core.setup }
     {
         lapse(&mut self.core, &mut self.names, word);
     }
@@ -141,6 +145,7 @@ impl<A: Allocator + Clone> Witness<A> {
         ensures err { OnErr result (Takes self.old self.new (Lapsed word)) }
         ensures why { IfErr result (λ why. why ≢ Untold.NoMemory → (e : List Event) → WitnessStands self.old e
             → facts.is_in_being (parts_of (facts_of e)) name ≡ false) }
+        ensures setup { self.new.core.setup ≡ self.old.core.setup }
     {
         if !is_in_being(&self.core.view(), name) {
             lapse(&mut self.core, &mut self.names, word);
@@ -161,6 +166,7 @@ impl<A: Allocator + Clone> Witness<A> {
         ensures err { OnErr result (Takes self.old self.new (Lapsed word)) }
         ensures why { IfErr result (λ why. why ≢ Untold.NoMemory
             → Refuses self.old.core (Hand tid kind object) why) }
+        ensures setup { self.new.core.setup ≡ self.old.core.setup }
     {
         make_room_for(&mut self.core, &mut self.names, &mut self.sweeping, word)?;
         match self.core.hand(tid, kind, object) {
@@ -209,6 +215,7 @@ impl<A: Allocator + Clone> Witness<A> {
         ensures err { OnErr result (Stays self.old self.new) }
         ensures why { IfErr result (λ why. why ≢ Untold.NoMemory
             → RefusesEnding self.old bounds tid env function operands.now why) }
+        ensures setup { self.new.core.setup ≡ self.old.core.setup }
     {
         let Ok(()) = read(&self.core, &self.names, tid, operands, &mut self.arguments) else {
             return Err(Untold::NoMemory);
@@ -224,6 +231,7 @@ impl<A: Allocator + Clone> Witness<A> {
         ensures ok { IfOk result (λ out. Returned self.old self.new ticket says word out) }
         ensures err { OnErr result (Takes self.old self.new (Lapsed word)) }
         ensures why { IfErr result (λ why. why ≢ Untold.NoMemory → RefusesReturn self.old.core ticket says why) }
+        ensures setup { self.new.core.setup ≡ self.old.core.setup }
     {
         make_room_unless_null(&mut self.core, &mut self.names, &mut self.sweeping, word)?;
         match self.core.returned(ticket, says) {

@@ -32,6 +32,15 @@ impl Bounds {
         length: i32::MAX,
         items: i32::MAX,
     };
+
+    /// The bounds, as C has them.
+    pub(crate) fn numbers(self) -> JgBounds {
+        JgBounds {
+            capacity: self.capacity,
+            length: self.length,
+            items: self.items,
+        }
+    }
 }
 
 /// What comes of a call, kept until the machine has answered ([`Core::did`]).
@@ -41,9 +50,9 @@ impl Bounds {
 #[derive(Debug, PartialEq, Eq)]
 #[must_use = "what came of the call is told by `Core::did`"]
 pub struct Ticket {
-    numbers: JgTicket,
-    /// The core that wrote it ([`Core::id`]).
-    core: u64,
+    pub(crate) numbers: JgTicket,
+    /// The core or the witness that wrote it ([`Core::id`]).
+    pub(crate) core: u64,
 }
 
 impl Ticket {
@@ -126,7 +135,7 @@ pub enum Verdict {
 
 impl Verdict {
     /// The verdict that this core wrote.
-    fn of(verdict: JgVerdict, core: u64) -> Result<Verdict, Error> {
+    pub(crate) fn of(verdict: JgVerdict, core: u64) -> Result<Verdict, Error> {
         let ticket = Ticket {
             numbers: verdict.ticket,
             core,
@@ -163,7 +172,7 @@ const UNTOLD: JgFact = JgFact {
 };
 
 /// What the library writes into where an object can't be gone.
-const NOT_HELD: JgHeld = JgHeld {
+pub(crate) const NOT_HELD: JgHeld = JgHeld {
     place: 0,
     by: 0,
     thread: 0,
@@ -171,7 +180,7 @@ const NOT_HELD: JgHeld = JgHeld {
 };
 
 /// The error of an object that can't be gone.
-fn still_held(held: JgHeld) -> Error {
+pub(crate) fn still_held(held: JgHeld) -> Error {
     match (usize::try_from(held.place), Holder::of(held)) {
         (Ok(place), Some(by)) => Error::StillHeld { place, by },
         _ => Error::Impossible,
@@ -179,7 +188,7 @@ fn still_held(held: JgHeld) -> Error {
 }
 
 /// What the library writes a verdict into.
-const UNASKED: JgVerdict = JgVerdict {
+pub(crate) const UNASKED: JgVerdict = JgVerdict {
     rule: 0,
     operand: 0,
     ticket: JgTicket {
@@ -206,18 +215,23 @@ const UNASKED: JgVerdict = JgVerdict {
 #[derive(Debug)]
 pub struct Core {
     handle: JgCore,
-    /// Which of the cores of this process it is: no other has had this number.
+    /// Which of the cores and witnesses of this process it is: no other has had this number.
     id: u64,
 }
 
-/// How many cores were opened.
+/// How many cores and witnesses were opened.
 static OPENED: AtomicU64 = AtomicU64::new(0);
+
+/// A number that no other core and no witness has had.
+pub(crate) fn next_id() -> u64 {
+    OPENED.fetch_add(1, Ordering::Relaxed)
+}
 
 // SAFETY: a handle may be used by any thread, by one call at a time; `&mut self` sees to that. The pointer in it keeps
 // `Core` from being `Sync`.
 unsafe impl Send for Core {}
 
-fn env_value(env: Option<Environment>) -> JgValue {
+pub(crate) fn env_value(env: Option<Environment>) -> JgValue {
     env.map_or(NONE, Environment::value)
 }
 
@@ -228,7 +242,7 @@ pub(crate) fn first_of(operands: &[Value]) -> *const JgValue {
 }
 
 /// The numbers of the objects, as C has them.
-fn numbers_of(objects: &[Object]) -> *const u64 {
+pub(crate) fn numbers_of(objects: &[Object]) -> *const u64 {
     // `Object` is a transparent `u64`.
     objects.as_ptr().cast()
 }
@@ -238,11 +252,7 @@ impl Core {
     /// [`setup_fault`](crate::setup_fault) tells.
     pub fn open(setup: &str, bounds: Bounds) -> Result<Core, Error> {
         let mut handle = JgCore { at: null_mut() };
-        let bounds = JgBounds {
-            capacity: bounds.capacity,
-            length: bounds.length,
-            items: bounds.items,
-        };
+        let bounds = bounds.numbers();
         // SAFETY: the text is as long as is said, and the handle is closed.
         let answer = unsafe {
             ffi::jg_core_open(
@@ -254,8 +264,10 @@ impl Core {
             )
         };
         answered(answer.into())?;
-        let id = OPENED.fetch_add(1, Ordering::Relaxed);
-        Ok(Core { handle, id })
+        Ok(Core {
+            handle,
+            id: next_id(),
+        })
     }
 
     /// The handle, for calls that take two.

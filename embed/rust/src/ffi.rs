@@ -82,6 +82,13 @@ pub struct JgCore {
     pub at: *mut c_void,
 }
 
+/// `jg_witness`.
+#[repr(C)]
+#[derive(Debug)]
+pub struct JgWitness {
+    pub at: *mut c_void,
+}
+
 /// `jg_guard`.
 #[repr(C)]
 #[derive(Debug)]
@@ -184,6 +191,65 @@ extern "C" {
         signature_size: usize,
     ) -> i64;
     pub fn jg_class_of(core: *mut JgCore, kind: u32) -> i64;
+
+    pub fn jg_witness_open(
+        text: *const u8,
+        size: usize,
+        bounds: *const JgBounds,
+        fewest: u64,
+        version: u32,
+        witness: *mut JgWitness,
+    ) -> i32;
+    pub fn jg_witness_close(witness: *mut JgWitness) -> i32;
+    pub fn jg_witness_hand(
+        witness: *mut JgWitness,
+        word: u64,
+        thread: u32,
+        kind: u32,
+        object: *const JgValue,
+        name: *mut JgValue,
+    ) -> i32;
+    pub fn jg_witness_handed(witness: *mut JgWitness, word: u64, name: *const JgValue) -> i32;
+    pub fn jg_witness_lapsed(witness: *mut JgWitness, word: u64) -> i32;
+    pub fn jg_witness_tell(
+        witness: *mut JgWitness,
+        fact: *const JgFact,
+        given: *mut JgValue,
+    ) -> i32;
+    pub fn jg_witness_gone(
+        witness: *mut JgWitness,
+        objects: *const u64,
+        count: usize,
+        held: *mut JgHeld,
+    ) -> i32;
+    pub fn jg_witness_ask(
+        witness: *mut JgWitness,
+        thread: u32,
+        env: *const JgValue,
+        function: u32,
+        operands: *const JgValue,
+        count: usize,
+        verdict: *mut JgVerdict,
+    ) -> i32;
+    pub fn jg_witness_ending(
+        witness: *mut JgWitness,
+        thread: u32,
+        env: *const JgValue,
+        function: u32,
+        operands: *const JgValue,
+        count: usize,
+        verdict: *mut JgVerdict,
+        given: *mut JgValue,
+    ) -> i32;
+    pub fn jg_witness_did(
+        witness: *mut JgWitness,
+        ticket: *mut JgTicket,
+        says: *const JgValue,
+        word: u64,
+        given: *mut JgValue,
+    ) -> i32;
+    pub fn jg_witness_meaning(witness: *mut JgWitness, word: u64, name: *mut JgValue) -> i32;
+    pub fn jg_witness_last(witness: *mut JgWitness, word: u64, name: *mut JgValue) -> i32;
 
     pub fn jg_adviser_open(most: u64, adviser: *mut JgAdviser) -> i32;
     pub fn jg_adviser_close(adviser: *mut JgAdviser) -> i32;
@@ -292,6 +358,7 @@ mod tests {
         assert_eq!((size_of::<JgBounds>(), align_of::<JgBounds>()), (12, 4));
         assert_eq!(offset_of!(JgBounds, items), 8);
         assert_eq!(size_of::<JgCore>(), size_of::<usize>());
+        assert_eq!(size_of::<JgWitness>(), size_of::<usize>());
         assert_eq!(size_of::<JgGuard>(), size_of::<usize>());
         assert_eq!(size_of::<JgAdviser>(), size_of::<usize>());
     }

@@ -2,6 +2,7 @@
 //!
 //! - A [`Core`] stands in front of a virtual machine that answers by itself. It is asked whether a thread may make a
 //!   call now, and is told what the machine did.
+//! - A [`Witness`] is a core that is asked by the machine's own handles, and keeps what each means.
 //! - A [`Guard`] answers scripts, as the program `jg` does: a line of a script in, its line of the journal out.
 //! - An [`Adviser`] stands beside a core, and says what breaks no rule and is likely wrong.
 //!
@@ -47,6 +48,7 @@ mod outcome;
 mod rule;
 mod text;
 mod value;
+mod witness;
 
 pub use crate::adviser::{Advice, AdviceKind, Adviser, Spot};
 pub use crate::core::{Bounds, Core, Ticket, Untold, Verdict};
@@ -58,6 +60,7 @@ pub use crate::held::Holder;
 pub use crate::outcome::{Entry, Outcome};
 pub use crate::rule::Rule;
 pub use crate::value::{Buffer, Environment, Given, Kind, Object, Reference, Says, Value};
+pub use crate::witness::Witness;
 
 use std::fmt;
 

@@ -3,7 +3,7 @@
 use crate::ffi::JgValue;
 use crate::numbers::{
     BUFFER, CLASS, ENVIRONMENT, GLOBAL, ID, ITEMS, LIST, LOCAL, NAME, NATIVE, NOTHING, NULL,
-    NUMBER, OBJECT, THREW, WEAK, WIDE,
+    NUMBER, OBJECT, THREW, WEAK, WIDE, WORD,
 };
 use std::fmt;
 
@@ -246,6 +246,11 @@ impl Value {
             number.is_some().into(),
             number.unwrap_or(0).into(),
         ))
+    }
+
+    /// A handle of the machine, of which 0 is `NULL`: an operand of a question to a [`Witness`](crate::Witness) alone.
+    pub const fn word(word: u64) -> Value {
+        Value(value(WORD, 0, word))
     }
 
     /// A name of which no rule speaks, whatever it is.

@@ -3,11 +3,11 @@
 ghost use Rattle.std.specs.Prelude.{◌≡◌, Option, Some, None};
 ghost use Rattle.std.specs.Option.{MatchOption};
 ghost use Rattle.std.specs.Borrow.{sem};
-ghost use Rattle.jg_c.specs.Lending.{LendsAdviser, LendsCore, LendsGuard, LendsOwnAdviser, LendsOwnCore, LendsOwnGuard, LendsSlot};
-ghost use Rattle.jg_c.specs.Sessions.{adviser_of, core_of, guard_of};
+ghost use Rattle.jg_c.specs.Lending.{LendsAdviser, LendsCore, LendsGuard, LendsOwnAdviser, LendsOwnCore, LendsOwnGuard, LendsOwnWitness, LendsSlot, LendsWitness};
+ghost use Rattle.jg_c.specs.Sessions.{adviser_of, core_of, guard_of, witness_of};
 
 use super::Handle;
-use crate::session::{AdviserSession, CoreSession, GuardSession, Session};
+use crate::session::{AdviserSession, CoreSession, GuardSession, Session, WitnessSession};
 use jg_slot::Slot;
 
 impl Handle {
@@ -29,6 +29,18 @@ impl Handle {
     {
         match self.slot().get_mut() {
             Some(session) => own_core(session),
+            None => None,
+        }
+    }
+
+    /// The witness that it holds, if it holds one.
+    pub(crate) fn witness(&mut self) -> Option<&mut WitnessSession>
+        ensures* writes_back { sem 𝓛 (LendsWitness self.entry result) }
+        ensures value { MatchOption result (witness_of self.old.value ≡ None)
+            (λ a. witness_of self.old.value ≡ Some a.now) }
+    {
+        match self.slot().get_mut() {
+            Some(session) => own_witness(session),
             None => None,
         }
     }
@@ -66,6 +78,21 @@ fn own_core(session: &mut Session) -> Option<&mut CoreSession>
 {
     match session {
         Session::Core(asked) => Some(asked),
+        Session::Witness(_) => None,
+        Session::Guard(_) => None,
+        Session::Adviser(_) => None,
+    }
+}
+
+/// The witness that the session is, if it is one.
+fn own_witness(session: &mut Session) -> Option<&mut WitnessSession>
+    ensures* writes_back { sem 𝓛 (LendsOwnWitness session.entry result) }
+    ensures value { MatchOption result (witness_of (Some session.old) ≡ None)
+        (λ a. witness_of (Some session.old) ≡ Some a.now) }
+{
+    match session {
+        Session::Core(_) => None,
+        Session::Witness(asked) => Some(asked),
         Session::Guard(_) => None,
         Session::Adviser(_) => None,
     }
@@ -79,6 +106,7 @@ fn own_guard(session: &mut Session) -> Option<&mut GuardSession>
 {
     match session {
         Session::Core(_) => None,
+        Session::Witness(_) => None,
         Session::Guard(kept) => Some(kept),
         Session::Adviser(_) => None,
     }
@@ -92,6 +120,7 @@ fn own_adviser(session: &mut Session) -> Option<&mut AdviserSession>
 {
     match session {
         Session::Core(_) => None,
+        Session::Witness(_) => None,
         Session::Guard(_) => None,
         Session::Adviser(noted) => Some(noted),
     }

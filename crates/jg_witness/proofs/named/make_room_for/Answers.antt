@@ -10,6 +10,6 @@ returns-in-Ok-clause-ok g c = λ e stands.
 
 pub returns-in-Err-clause-err : goal.returns-in-Err-clause-err
 returns-in-Err-clause-err g c = λ e stands.
-    c.lapse.ensures e
+    c.lapse.ensures.stands e
     (swept_stands c.args.core.now c.args.names.now.entries c.make_room.new.names.entries e
     (c.make_room.ensures.swept (parts_of (facts_of e)) (c.view.ensures.tells (facts_of e) stands.core)) stands)

@@ -20,7 +20,7 @@ returns-in-Ok-clause-ok g c = λ e stands.
     let told = told_stands c.make_room_for.new.core c.hand.new.self c.make_room_for.new.names.entries x e start
     (c.in-Ok.ensures.ok.stands (facts_of e) start.core) in
     let is : c.in-Ok.name ≡ To c.args.kind c.args.tid (next_ref p c.args.tid.0) = c.in-Ok.ensures.next (facts_of e) start.core in
-    c.put.ensures (Told x ∷ e) told
+    c.put.ensures.stands (Told x ∷ e) told
     (subst (λ (name : Ref). IsCounted (on x p) name) (sym is) (handed_counts c.args.tid.0 c.args.kind c.args.object.0 p))
 
 pub invariant_of-self-in-Ok : goal.invariant_of-self-in-Ok

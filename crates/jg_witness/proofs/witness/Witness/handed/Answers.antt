@@ -12,7 +12,7 @@ returns-clause-ok g c = λ e stands.
     let start = subst (λ (old : WitnessState). WitnessStands old e) (sym c.self.view_is) stands in
     let is : is_in_being (parts_of w) c.args.name ≡ true =
     sym (c.is_in_being.ensures (parts_of w) (c.view.ensures.tells w start.core)) ∙ c.if-not-is_in_being.false in
-    c.put.ensures e (c.in_ok-make_room_for.ensures.ok e start) (being_counted c.self.inside.core.setup w c.args.name start.core.history is)
+    c.put.ensures.stands e (c.in_ok-make_room_for.ensures.ok e start) (being_counted c.self.inside.core.setup w c.args.name start.core.history is)
 
 pub invariant_of-self-2 : goal.invariant_of-self-2
 invariant_of-self-2 g c =
