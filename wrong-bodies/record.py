@@ -2,9 +2,10 @@
 
 A check comes out alike wherever what it reads is alike. So what is in the record isn't tried again, on any machine, as
 long as none of this changed: the edit, the sources of its crate and of those below it, the scripts that try it, and the
-program logic. The record needn't be believed. At each commit it is the turn of an eighth, by how many commits there
+program logic. The record needn't be believed. At each commit it is the turn of a sixteenth, by how many commits there
 are: these are tried all the same. Where that can't be told, it is the turn of all.
 """
+import collections
 import hashlib
 import os
 import subprocess
@@ -17,7 +18,7 @@ import together
 
 FILE = f"{edits.HERE}/refused.txt"
 HEAD = "# What was refused, and a sum of all that this came of: written by `wrong-bodies/all --record`."
-TURNS = 8
+TURNS = 16
 # The scripts that an outcome stands on.
 OF_CRATES = (edits, functions, together)
 OF_TESTS = (edits, by_tests)
@@ -37,9 +38,15 @@ def unit_of(name):
 
 
 def units_of_turn(count):
-    """The units whose turn it is at so many commits."""
-    units = sorted({unit_of(it) for it in edits.every()})
-    return {it for at, it in enumerate(units) if count is None or (at - count) % TURNS == 0}
+    """The units whose turn it is at so many commits. They are dealt to and fro, those of many wrong bodies first, so
+    that each turn has about as many."""
+    sizes = collections.Counter(unit_of(it) for it in edits.every())
+    found = set()
+    for at, unit in enumerate(sorted(sizes, key=lambda it: (-sizes[it], it))):
+        row, place = divmod(at, TURNS)
+        turn = place if row % 2 == 0 else TURNS - 1 - place
+        found |= {unit} if count is None or turn == count % TURNS else set()
+    return found
 
 
 def read_lines():
