@@ -33,10 +33,6 @@ class Function:
         of_trait = "" if self.of_trait == "Drop" else self.of_trait
         return "::".join(it for it in (self.module, self.holder + of_trait, self.name) if it)
 
-    def has_body(self):
-        """Whether it has one: of a method that a trait declares there may be none, and then `;` stands there."""
-        return self.end - self.body > len(";")
-
     def is_named(self, path):
         """Whether a check may call this function so: a method stands in its type's module, and an impl's name may hold
         the trait's arguments."""

@@ -108,7 +108,7 @@ def tree_of(crate):
     types = {name: module for path, tokens in read for name, module in functions.types_of(path, tokens).items()}
     for it in [it for found in by_file.values() for it in found if it.holder and it.of_trait in ("", "Drop")]:
         it.module = types.get(it.holder, it.module)
-    return Tree(crate, by_file, {it.path(): set() for found in by_file.values() for it in found if it.has_body()})
+    return Tree(crate, by_file, {it.path(): set() for found in by_file.values() for it in found})
 
 
 def about(tree, path, old, new):
