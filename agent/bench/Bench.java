@@ -78,9 +78,9 @@ public class Bench {
         double take(String text, int count);
     }
 
-    /** Calls by four threads at once: nanoseconds for each call of all. */
-    static double together(Work work, int count) throws Exception {
-        Thread[] threads = new Thread[4];
+    /** Calls by so many threads at once: nanoseconds for each call of all. */
+    static double together(Work work, int many, int count) throws Exception {
+        Thread[] threads = new Thread[many];
         long begun = System.nanoTime();
         for (int at = 0; at < threads.length; at++) {
             String text = "text " + at;
@@ -90,7 +90,7 @@ public class Bench {
         for (Thread thread : threads) {
             thread.join();
         }
-        return (System.nanoTime() - begun) / (4.0 * count);
+        return (System.nanoTime() - begun) / ((double) many * count);
     }
 
     static final String BESIDE = "GetIntField-beside-" + OTHERS;
@@ -125,10 +125,13 @@ public class Bench {
         median("empty-native", samples, count, n -> empties(n));
         median("empty-native-3-references", samples, count, n -> empties(object, array, n));
         median("GetStringLength-attached", samples, count, n -> attached("a text", n));
-        // Each begins four threads, which takes as long as thousands of calls.
+        // Each begins threads, which takes as long as thousands of calls.
         int fewer = Math.max(3, samples / 20);
-        median("GetStringLength-by-4", fewer, 100 * count, n -> together(Bench::lengths, n));
-        median("NewLocalRef+DeleteLocalRef-by-4", fewer, 100 * count, n -> together(Bench::locals, n));
+        for (int many : only == null ? new int[] {4} : new int[] {1, 4}) {
+            median("GetStringLength-by-" + many, fewer, 100 * count, n -> together(Bench::lengths, many, n));
+            median("NewLocalRef+DeleteLocalRef-by-" + many, fewer, 100 * count,
+                   n -> together(Bench::locals, many, n));
+        }
         List<Object> others = only == null || only.equals(BESIDE) ? others() : List.of(object);
         median(BESIDE, samples, count, n -> fields(others.get(others.size() / 2), n));
     }
