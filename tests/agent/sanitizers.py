@@ -16,6 +16,21 @@ OPTIONS = {
     'thread': {'TSAN_OPTIONS': THREAD},
 }
 LIBRARIES = {'address': ['asan', 'ubsan'], 'thread': ['tsan']}
+# What isn't a race of the agent's, and why.
+OF_TAGS = "HotSpot's own lock orders it: another thread finds the struct by the object's tag, which is set last"
+OF_STUBS = "HotSpot orders it: another thread finds the struct by its stub, which HotSpot calls once it was handed it"
+OF_CRITICAL = 'the program may store into a critical array or its copy at any time: each item is taken as it is then'
+SUPPRESSED = {
+    'race:^make_object$': OF_TAGS,
+    'race:^make_class$': OF_TAGS,
+    'race:^objects_freed$': OF_TAGS,
+    'race:^make_native$': OF_STUBS,
+    'race:^look_at_items$': OF_CRITICAL,
+    'race:^hand_on$': OF_CRITICAL,
+    'race:^fetch$': OF_CRITICAL,
+    'race:^fill_items$': OF_CRITICAL,
+}
+
 # What stands before the machine's name: the thread sanitizer wants the addresses of memory as they are without chance.
 BEFORE = {'address': [], 'thread': ['setarch', '-R']}
 
@@ -25,12 +40,12 @@ def library(name):
                           check=True).stdout.strip()
 
 
-def environment(kind, folder, suppressed=()):
-    """That of this process, and what the sanitizer wants. It reads in the folder what it isn't to tell."""
+def environment(kind, folder, more=()):
+    """That of this process, and what the sanitizer wants. It reads in the folder what it isn't to tell, and more."""
     found = dict(os.environ, LD_PRELOAD=':'.join(map(library, LIBRARIES[kind])), **OPTIONS[kind])
     if kind == 'thread':
         with open(f'{folder}/suppressed', 'w', encoding='utf-8') as file:
-            for line in [*suppressed, *(f'called_from_lib:{it}' for it in UNWATCHED)]:
+            for line in [*SUPPRESSED, *(f'called_from_lib:{it}' for it in UNWATCHED), *more]:
                 file.write(f'{line}\n')
         found['TSAN_OPTIONS'] += f' suppressions={folder}/suppressed'
     return found
