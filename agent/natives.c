@@ -325,8 +325,11 @@ void JNICALL natives_bound(jvmtiEnv *of, JNIEnv *env, jthread thread, jmethodID 
     (void)of;
     (void)env;
     (void)thread;
-    if (!is_live && machine != NULL) {
-        /* Before another agent can wrap what the machine put into the table. */
+    if (is_from_start && !is_live && machine != NULL) {
+        /*
+         * Before another agent can wrap what the machine put into the table. An agent that is loaded later has no need
+         * of it, and the table that is read here would undo what the thread puts there that loads the agent.
+         */
         table_renew();
     }
     sites_check_unloaded();

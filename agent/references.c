@@ -54,11 +54,14 @@ static void end_reference(struct call *call, const struct name *known, uint32_t 
     }
 }
 
-/* A denied deletion is made all the same, but not of what is held back: the machine didn't see the first. */
+/*
+ * A denied deletion is made all the same, but not of what ended: the machine didn't see the first of what is held back,
+ * and the slot of the others may be another reference's by now, also one of the agent's own.
+ */
 static void delete_denied(struct call *call, uint32_t kind, jobject handle) {
     struct name known;
     int is_known = handle != NULL && names_find(address_of(handle), &known);
-    if (is_known && known.state == NAME_HELD) {
+    if (is_known && (known.state == NAME_HELD || known.state == NAME_DEAD)) {
         return;
     }
     if (is_known && known.state == NAME_LIVE && call_tells_denied(call, jg_nothing())) {
