@@ -237,11 +237,19 @@ void call_sees_global(jobject handle) {
 }
 
 /*
- * A handle that later machines mark as a global reference, and that none of them handed out or that was deleted. They
- * die of the question what kind of reference it is.
+ * Whether the machine never handed out a global reference as this handle, or it was deleted. If its slot is one all the
+ * same, it is the agent's own or the machine's. Of what came before an agent that is loaded later nobody knows.
+ */
+static int is_nobodys_global(const struct name *known) {
+    return is_from_start && (known == NULL || known->state == NAME_DEAD);
+}
+
+/*
+ * Such a handle, where later machines mark it as that of a global reference. They die of the question what kind of
+ * reference it is.
  */
 static int is_unseen_global(uintptr_t handle, const struct name *known) {
-    return (handle & 3) == 2 && is_from_start && (known == NULL || known->state == NAME_DEAD);
+    return (handle & 3) == 2 && is_nobodys_global(known);
 }
 
 static int is_foreign(const struct call *call, const struct name *known) {
@@ -263,6 +271,9 @@ static int is_named_still(const struct call *call, const struct name *known, job
 static void resolve_in_machine(struct call *call, struct reference *it, const struct name *known) {
     int is_dead = is_unseen_global(address_of(it->handle), known);
     jobjectRefType kind = is_dead ? JNIInvalidRefType : call_kind(call, it->handle);
+    if (kind == JNIGlobalRefType && is_nobodys_global(known)) {
+        kind = JNIInvalidRefType;
+    }
     known = known != NULL && known->state == NAME_SEEN ? NULL : known;
     int is_live_name = known != NULL && known->state == NAME_LIVE;
     if (is_live_name && is_named_still(call, known, kind)) {

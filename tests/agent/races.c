@@ -75,7 +75,7 @@ static void makes_globals(JNIEnv *env, unsigned seed, jobject own) {
     }
 }
 
-/* Two threads may delete it. So nothing that is held back may be given back to the machine meanwhile. */
+/* Two threads may delete it, and another global reference may have its slot by then, also one of the agent's own. */
 static void deletes_twice(JNIEnv *env, unsigned seed, jobject own) {
     static _Atomic(jobject) places[4];
     for (int turn = 0; turn < TURNS; turn++) {
