@@ -50,11 +50,13 @@ def units_of_turn(count):
 
 
 def read_lines():
-    """The sums of the record by the names of wrong bodies; none where there is no record."""
+    """The sums of the record by the names of wrong bodies. What isn't a line of it, as a merge leaves some, says
+    nothing: so that is tried."""
     if not os.path.isfile(FILE):
         return {}
     with open(FILE, encoding="utf-8") as it:
-        return {name: found for found, name in (line.split() for line in it if not line.startswith("#"))}
+        lines = [line.split() for line in it if not line.startswith("#")]
+    return {words[1]: words[0] for words in lines if len(words) == 2}
 
 
 def logic_of(kit):
